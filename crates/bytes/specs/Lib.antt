@@ -1,0 +1,5 @@
+pub mod Fields
+pub mod Crc
+pub mod Tag
+pub mod Rows
+pub mod Every

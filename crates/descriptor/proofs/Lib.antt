@@ -1,0 +1,4 @@
+pub mod Lengths
+pub mod Decoding
+pub mod Conditions
+pub mod Reading

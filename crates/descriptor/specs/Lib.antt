@@ -1,0 +1,7 @@
+pub mod Kinds
+pub mod Refusals
+pub mod Checks
+pub mod Decode
+pub mod Law
+pub mod Tables
+pub mod Recognition

@@ -1,0 +1,7 @@
+// A sector of 2,048 bytes as a volume descriptor: the four checks, and what each kind of descriptor holds.
+pub mod checks;
+pub mod decode;
+pub mod kinds;
+pub mod recognition;
+pub mod refusal;
+pub mod tables;

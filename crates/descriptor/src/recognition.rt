@@ -1,0 +1,29 @@
+// A sector as a volume structure descriptor, of which the volume recognition sequence is made.
+ghost use mathlib.Core.Path.{_≡_};
+ghost use Rattle.descriptor.specs.Recognition.{structure-in};
+use bytes::fields::byte_at;
+
+// The standard that a volume structure descriptor names.
+#[derive(Clone, Copy)]
+pub enum Structure {
+    Bea01,
+    Boot2,
+    Nsr03,
+    Tea01,
+}
+
+// The volume structure descriptor that a sector is, if it is one: type 0, version 1, and one of four identifiers.
+pub fn recognise(sector: &[u8; 2048]) -> Option<Structure>
+    ensures { λ r. ⌜ r ≡ structure-in (now (sector .entry)) ⌝ }
+{
+    if byte_at(sector, 0) != 0 || byte_at(sector, 6) != 1 {
+        return None;
+    }
+    match &sector[1..6] {
+        b"BEA01" => Some(Structure::Bea01),
+        b"BOOT2" => Some(Structure::Boot2),
+        b"NSR03" => Some(Structure::Nsr03),
+        b"TEA01" => Some(Structure::Tea01),
+        _ => None,
+    }
+}

@@ -1,0 +1,5 @@
+pub mod Chain
+pub mod Passes
+pub mod RoundTrip
+pub mod RoundTripTables
+pub mod Recognised

@@ -1,0 +1,5 @@
+pub mod Sealed
+pub mod Written
+pub mod ReadBack
+pub mod Limits
+pub mod Recognition

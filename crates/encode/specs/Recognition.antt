@@ -1,0 +1,12 @@
+-- The bytes of the volume structure descriptors that are written: type 0, an identifier, version 1, and zeros.
+use Prim.Native.Nat.{ℕ}
+use mathlib.Core.List.{List, [], _∷_}
+use Rattle.bytes.specs.Fields.{laid, zeros}
+use Rattle.descriptor.specs.declared.recognition.Structure.{Structure}
+use Rattle.descriptor.specs.Recognition.{code-of}
+
+unfoldable pub named-bytes : (identifier : List ℕ) → List ℕ
+named-bytes identifier = laid ((1, identifier) ∷ (6, 1 ∷ []) ∷ []) (zeros 2048)
+
+abbrev pub structure-bytes : Structure → List ℕ
+structure-bytes which = named-bytes (code-of which)

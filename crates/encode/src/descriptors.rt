@@ -1,0 +1,79 @@
+// The descriptors that are written.
+ghost use mathlib.Core.Path.{_≡_};
+ghost use Rattle.descriptor.specs.declared.kinds.Place.the-variants.{Anchor, Sequence};
+ghost use Rattle.encode.specs.ReadBack.{ReadsAs, primary-fields, anchor-fields, partition-fields};
+ghost use Rattle.encode.specs.Written.{primary-bytes, anchor-bytes, partition-bytes, terminating-bytes};
+ghost use Rattle.descriptor.specs.Kinds.{terminating as terminating-fields};
+use crate::seal::Stamp;
+use crate::seal::blank;
+use crate::seal::seal;
+use bytes::fields::put_bytes;
+use bytes::fields::put_u16;
+use bytes::fields::put_u32;
+use descriptor::kinds::Extent;
+use descriptor::kinds::Partition;
+
+// The Primary Volume Descriptor.
+pub fn primary(
+    stamp: Stamp,
+    sequence: u32,
+    volume: &[u8; 32],
+    volume_set: &[u8; 128],
+    recorded: &[u8; 12],
+) -> [u8; 2048]
+    ensures bytes { λ r. ⌜ r ≡ primary-bytes stamp sequence (now (volume .entry)) (now («volume_set» .entry)) (now (recorded .entry)) ⌝ }
+    ensures read_back { λ r. ⌜ ReadsAs r stamp Sequence (primary-fields stamp sequence (now (volume .entry)) (now («volume_set» .entry)) (now (recorded .entry))) ⌝ }
+{
+    let mut sector = blank();
+    put_u32(&mut sector, 16, sequence);
+    put_bytes(&mut sector, 24, volume);
+    put_u16(&mut sector, 56, 1);
+    put_u16(&mut sector, 58, 1);
+    put_u16(&mut sector, 60, 3);
+    put_u16(&mut sector, 62, 3);
+    put_bytes(&mut sector, 72, volume_set);
+    put_bytes(&mut sector, 376, recorded);
+    put_u16(&mut sector, 488, 1);
+    seal(&mut sector, 1, stamp);
+    sector
+}
+
+// The Anchor Volume Descriptor Pointer.
+pub fn anchor(stamp: Stamp, main: Extent, reserve: Extent) -> [u8; 2048]
+    ensures bytes { λ r. ⌜ r ≡ anchor-bytes stamp main reserve ⌝ }
+    ensures read_back { λ r. ⌜ ReadsAs r stamp Anchor (anchor-fields stamp main reserve) ⌝ }
+{
+    let mut sector = blank();
+    put_u32(&mut sector, 16, main.length);
+    put_u32(&mut sector, 20, main.location);
+    put_u32(&mut sector, 24, reserve.length);
+    put_u32(&mut sector, 28, reserve.location);
+    seal(&mut sector, 2, stamp);
+    sector
+}
+
+// The Partition Descriptor of a partition that has its space allocated.
+pub fn partition(stamp: Stamp, sequence: u32, partition: Partition) -> [u8; 2048]
+    ensures bytes { λ r. ⌜ r ≡ partition-bytes stamp sequence partition ⌝ }
+    ensures read_back { λ r. ⌜ ReadsAs r stamp Sequence (partition-fields stamp sequence partition) ⌝ }
+{
+    let mut sector = blank();
+    put_u32(&mut sector, 16, sequence);
+    put_u16(&mut sector, 20, 1);
+    put_u16(&mut sector, 22, partition.number);
+    put_u32(&mut sector, 184, partition.access);
+    put_u32(&mut sector, 188, partition.first);
+    put_u32(&mut sector, 192, partition.count);
+    seal(&mut sector, 5, stamp);
+    sector
+}
+
+// The Terminating Descriptor.
+pub fn terminating(stamp: Stamp) -> [u8; 2048]
+    ensures bytes { λ r. ⌜ r ≡ terminating-bytes stamp ⌝ }
+    ensures read_back { λ r. ⌜ ReadsAs r stamp Sequence (terminating-fields (stamp .serial)) ⌝ }
+{
+    let mut sector = blank();
+    seal(&mut sector, 8, stamp);
+    sector
+}

@@ -1,0 +1,42 @@
+// The volume structure descriptors that are written.
+ghost use mathlib.Core.Path.{_≡_};
+ghost use Rattle.std.specs.declared.option.Option.the-variants.{Some};
+ghost use Rattle.descriptor.specs.Recognition.{structure-in};
+ghost use Rattle.descriptor.specs.declared.recognition.Structure.the-variants.{Bea01, Nsr03, Tea01};
+ghost use Rattle.encode.specs.Recognition.{structure-bytes, named-bytes};
+use crate::seal::blank;
+use bytes::fields::put_bytes;
+
+// A volume structure descriptor: type 0, an identifier, version 1.
+fn named(identifier: &[u8; 5]) -> [u8; 2048]
+    ensures { λ r. ⌜ r ≡ named-bytes (now (identifier .entry)) ⌝ }
+{
+    let mut sector = blank();
+    put_bytes(&mut sector, 1, identifier);
+    put_bytes(&mut sector, 6, &[1]);
+    sector
+}
+
+// The Beginning Extended Area Descriptor.
+pub fn beginning_area() -> [u8; 2048]
+    ensures bytes { λ r. ⌜ r ≡ structure-bytes Bea01 ⌝ }
+    ensures read_back { λ r. ⌜ structure-in r ≡ Some Bea01 ⌝ }
+{
+    named(b"BEA01")
+}
+
+// The NSR Descriptor: descriptors of this volume are by the standard that it names.
+pub fn nsr() -> [u8; 2048]
+    ensures bytes { λ r. ⌜ r ≡ structure-bytes Nsr03 ⌝ }
+    ensures read_back { λ r. ⌜ structure-in r ≡ Some Nsr03 ⌝ }
+{
+    named(b"NSR03")
+}
+
+// The Terminating Extended Area Descriptor.
+pub fn terminating_area() -> [u8; 2048]
+    ensures bytes { λ r. ⌜ r ≡ structure-bytes Tea01 ⌝ }
+    ensures read_back { λ r. ⌜ structure-in r ≡ Some Tea01 ⌝ }
+{
+    named(b"TEA01")
+}
