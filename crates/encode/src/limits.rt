@@ -7,7 +7,7 @@ use descriptor::kinds::FreePair;
 pub const MOST_PAIR_SECTORS: u32 = 524_287;
 
 // Which limit a descriptor would pass, so that it is not written.
-#[derive(Clone, Copy)]
+#[derive(Clone, Copy, Debug, PartialEq, Eq)]
 pub enum OffLimits {
     Partitions,
     Pairs,

@@ -1,0 +1,3 @@
+// An image file gone through sector by sector.
+pub mod fault;
+pub mod inspect;

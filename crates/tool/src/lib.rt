@@ -1,0 +1,3 @@
+// What the command line tool does.
+pub mod command;
+pub mod demonstration;
