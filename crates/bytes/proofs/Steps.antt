@@ -41,7 +41,7 @@ unfolding shifts
 shifts-fit zero r = shifted-fits r
 shifts-fit (suc n) r = shifts-fit n (shifted r)
 
-absorbed-fits : (r b : ℕ) → absorbed r b < 2 ^ 16
+pub absorbed-fits : (r b : ℕ) → absorbed r b < 2 ^ 16
 unfolding absorbed
 absorbed-fits r b = shifts-fit 7 (bitXor r (256 * b))
 

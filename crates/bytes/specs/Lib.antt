@@ -3,3 +3,4 @@ pub mod Crc
 pub mod Tag
 pub mod Rows
 pub mod Every
+pub mod Polynomial

@@ -1,5 +1,6 @@
 // The CRC of a run of bytes.
 ghost use mathlib.Core.Path.{_≡_};
+ghost use Rattle.bytes.specs.Polynomial.{Remainder};
 ghost use Rattle.bytes.specs.Crc.{shifted, absorbed, crc};
 
 // The bit that leaves the register at a shift.
@@ -31,8 +32,8 @@ fn absorb(register: u16, byte: u8) -> u16
     register
 }
 
-// The CRC of a run of bytes.
-pub fn crc_of(bytes: &[u8]) -> u16
+// Byte after byte.
+fn fold(bytes: &[u8]) -> u16
     ensures { λ r. ⌜ r ≡ crc (now (bytes .entry)) ⌝ }
 {
     let mut register = 0;
@@ -40,4 +41,12 @@ pub fn crc_of(bytes: &[u8]) -> u16
         register = absorb(register, *byte);
     }
     register
+}
+
+// The CRC of a run of bytes.
+pub fn crc_of(bytes: &[u8]) -> u16
+    ensures value { λ r. ⌜ r ≡ crc (now (bytes .entry)) ⌝ }
+    ensures law { λ r. ⌜ Remainder (now (bytes .entry)) r ⌝ }
+{
+    fold(bytes)
 }

@@ -25,7 +25,7 @@ decides-leb : (a b : ℕ) → Decides (leb a b) (a ≤ b)
 decides-leb a b = (leb-true a b, le-leb a b)
 
 -- from an answer to the way that led to it
-cond-some : {A : Type 0} (b : Bool) (x y : Option A) (d : A) → cond b x y ≡ Some d → ((b ≡ true) × (x ≡ Some d)) ⊎ ((b ≡ false) × (y ≡ Some d))
+pub cond-some : {A : Type 0} (b : Bool) (x y : Option A) (d : A) → cond b x y ≡ Some d → ((b ≡ true) × (x ≡ Some d)) ⊎ ((b ≡ false) × (y ≡ Some d))
 cond-some true x y d e = inl (refl, e)
 cond-some false x y d e = inr (refl, e)
 

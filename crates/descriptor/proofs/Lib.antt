@@ -2,3 +2,4 @@ pub mod Lengths
 pub mod Decoding
 pub mod Conditions
 pub mod Reading
+pub mod Recognising

@@ -1,5 +1,6 @@
 // A sector as a volume structure descriptor, of which the volume recognition sequence is made.
 ghost use mathlib.Core.Path.{_≡_};
+ghost use Rattle.descriptor.specs.Law.{Recognition};
 ghost use Rattle.descriptor.specs.Recognition.{structure-in};
 use bytes::fields::byte_at;
 
@@ -12,8 +13,8 @@ pub enum Structure {
     Tea01,
 }
 
-// The volume structure descriptor that a sector is, if it is one: type 0, version 1, and one of four identifiers.
-pub fn recognise(sector: &[u8; 2048]) -> Option<Structure>
+// The type, the version and the identifier, in turn.
+fn named(sector: &[u8; 2048]) -> Option<Structure>
     ensures { λ r. ⌜ r ≡ structure-in (now (sector .entry)) ⌝ }
 {
     if byte_at(sector, 0) != 0 || byte_at(sector, 6) != 1 {
@@ -26,4 +27,12 @@ pub fn recognise(sector: &[u8; 2048]) -> Option<Structure>
         b"TEA01" => Some(Structure::Tea01),
         _ => None,
     }
+}
+
+// The volume structure descriptor that a sector is, if it is one: type 0, version 1, and one of four identifiers.
+pub fn recognise(sector: &[u8; 2048]) -> Option<Structure>
+    ensures value { λ r. ⌜ r ≡ structure-in (now (sector .entry)) ⌝ }
+    ensures law { λ r. ⌜ Recognition (now (sector .entry)) r ⌝ }
+{
+    named(sector)
 }

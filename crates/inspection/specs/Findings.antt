@@ -1,6 +1,7 @@
 -- What is found in a sector whose place is not known.
 use Prim.Native.Nat.{ℕ}
-use mathlib.Core.Bool.{Bool, cond}
+use mathlib.Core.Bool.{Bool, true, false, cond}
+use mathlib.Core.Path.{_≡_}
 use mathlib.Core.List.{List}
 use lib.Dec.{eqb}
 use lib.ListN.{take}
@@ -61,3 +62,11 @@ found-in (case.Structure s) = structure s
 found-in (case.Refused f) = refused f
 found-in case.Blank = blank
 found-in case.Other = other
+
+-- what a finding says of its sector: it is a descriptor exactly where some place accepts it; where it is refused, every
+-- place refuses it, for that reason, though its tag is not blank and its sum is right
+pub record Examined (bs : List ℕ) (number : ℕ) (f : Found) : Type 0 where
+  pub is-descriptor : (p : Place) (d : Fields) → f ≡ descriptor p d → decoded bs number p ≡ Ok d
+  pub descriptor-found : (p : Place) (d : Fields) → decoded bs number p ≡ Ok d → (q : Place) × (e : Fields) × (f ≡ descriptor q e)
+  pub is-refused : (why : Refusal) → f ≡ refused why → ((p : Place) → decoded bs number p ≡ Err why) × (tag-blank bs ≡ false) × (sum-stands bs ≡ true)
+  pub refused-found : ((p : Place) (d : Fields) → decoded bs number p ≡ Ok d → ⊥) → structure-in bs ≡ None → tag-blank bs ≡ false → sum-stands bs ≡ true → (why : Refusal) × (f ≡ refused why)

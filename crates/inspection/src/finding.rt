@@ -1,6 +1,6 @@
 // What is found in a sector whose place is not known.
 ghost use mathlib.Core.Path.{_≡_};
-ghost use Rattle.inspection.specs.Findings.{tag-blank, no-descriptor, found-in, examined};
+ghost use Rattle.inspection.specs.Findings.{tag-blank, no-descriptor, found-in, examined, Examined};
 ghost use Rattle.descriptor.specs.Recognition.{structure-in};
 use descriptor::checks::sum_holds;
 use descriptor::decode::decode;
@@ -50,8 +50,8 @@ fn undescribed(sector: &[u8; 2048], reason: Refusal) -> Finding<'_>
     }
 }
 
-// What the sector with this number is: the first place in which it is a descriptor, else what else it is.
-pub fn examine(sector: &[u8; 2048], number: u32) -> Finding<'_>
+// The places in turn.
+fn tried(sector: &[u8; 2048], number: u32) -> Finding<'_>
     ensures { λ r. ⌜ found-in r ≡ examined (now (sector .entry)) number ⌝ }
 {
     if let Ok(found) = decode(sector, number, Place::Anchor) {
@@ -64,4 +64,12 @@ pub fn examine(sector: &[u8; 2048], number: u32) -> Finding<'_>
         Ok(found) => Finding::Descriptor(Place::IntegrityExtent, found),
         Err(reason) => undescribed(sector, reason),
     }
+}
+
+// What the sector with this number is: the first place in which it is a descriptor, else what else it is.
+pub fn examine(sector: &[u8; 2048], number: u32) -> Finding<'_>
+    ensures value { λ r. ⌜ found-in r ≡ examined (now (sector .entry)) number ⌝ }
+    ensures law { λ r. ⌜ Examined (now (sector .entry)) number (found-in r) ⌝ }
+{
+    tried(sector, number)
 }

@@ -24,4 +24,4 @@ pub returns : need.returns
 returns c =
     let n : c .from .result - 0 ≡ c .u16-at-covered .result = omega arith in
     stands (c .args .sector .now) _ _ (c .u16-at-covered .result) (c .u16-at .ensures) (c .u16-at-covered .ensures) (omega arith)
-    (c .crc-of .ensures ∙ ap (λ (m : ℕ). crc (take m (take 2032 (drop 16 (c .args .sector .now))))) n)
+    (c .crc-of .ensures .value ∙ ap (λ (m : ℕ). crc (take m (take 2032 (drop 16 (c .args .sector .now))))) n)

@@ -18,5 +18,5 @@ pub returns : need.returns
 unfolding sealed
 returns c =
     c .put-bytes .ensures
-    ∙ (ap (λ (l : List ℕ). put 0 l (c .args .sector .now)) (c .tag-of-tag .ensures ∙ ap (tag (c .args .kind) (c .args .stamp)) (c .crc-of-crc .ensures))
+    ∙ (ap (λ (l : List ℕ). put 0 l (c .args .sector .now)) (c .tag-of-tag .ensures ∙ ap (tag (c .args .kind) (c .args .stamp)) (c .crc-of-crc .ensures .value))
     ∙ tagged (c .args .kind) (c .args .stamp) (crc (part (c .args .sector .now) 16 496)) (c .args .sector .now) (c .told-sector))
