@@ -71,3 +71,14 @@ fields-of (case.LogicalVolume s q n b m e) = logical-volume (record { serial = s
 fields-of (case.UnallocatedSpace s q e) = unallocated-space (record { serial = s; sequence = q; extents = now e })
 fields-of (case.Terminating s) = terminating s
 fields-of (case.Integrity s d t e n z) = integrity (record { serial = s; recorded = now d; state = t; next = e; partitions = n; sizes = now z })
+
+-- the serial number of a descriptor's set
+abbrev pub serial-of : Fields → ℕ
+serial-of (primary f) = f .serial
+serial-of (anchor f) = f .serial
+serial-of (implementation-use f) = f .serial
+serial-of (partition f) = f .serial
+serial-of (logical-volume f) = f .serial
+serial-of (unallocated-space f) = f .serial
+serial-of (terminating serial) = serial
+serial-of (integrity f) = f .serial

@@ -16,6 +16,7 @@ use crate::kinds::Extent;
 use crate::kinds::Integrity;
 use crate::kinds::Partition;
 use crate::kinds::Place;
+use crate::kinds::Sector;
 use crate::refusal::Refusal;
 use bytes::fields::u16_at;
 use bytes::fields::u32_at;
@@ -30,7 +31,7 @@ pub(crate) fn extent(bytes: &[u8], at: usize) -> Extent
     }
 }
 
-fn primary(sector: &[u8; 2048]) -> Descriptor<'_>
+fn primary(sector: &Sector) -> Descriptor<'_>
     ensures { λ r. ⌜ fields-of r ≡ primary-in (now (sector .entry)) ⌝ }
 {
     Descriptor::Primary {
@@ -42,7 +43,7 @@ fn primary(sector: &[u8; 2048]) -> Descriptor<'_>
     }
 }
 
-fn anchor(sector: &[u8; 2048]) -> Descriptor<'_>
+fn anchor(sector: &Sector) -> Descriptor<'_>
     ensures { λ r. ⌜ fields-of r ≡ anchor-in (now (sector .entry)) ⌝ }
 {
     Descriptor::Anchor {
@@ -52,7 +53,7 @@ fn anchor(sector: &[u8; 2048]) -> Descriptor<'_>
     }
 }
 
-fn implementation_use(sector: &[u8; 2048]) -> Descriptor<'_>
+fn implementation_use(sector: &Sector) -> Descriptor<'_>
     ensures { λ r. ⌜ fields-of r ≡ implementation-use-in (now (sector .entry)) ⌝ }
 {
     Descriptor::ImplementationUse {
@@ -61,7 +62,7 @@ fn implementation_use(sector: &[u8; 2048]) -> Descriptor<'_>
     }
 }
 
-fn partition(sector: &[u8; 2048]) -> Descriptor<'_>
+fn partition(sector: &Sector) -> Descriptor<'_>
     ensures { λ r. ⌜ fields-of r ≡ partition-in (now (sector .entry)) ⌝ }
 {
     let partition = Partition {
@@ -78,7 +79,7 @@ fn partition(sector: &[u8; 2048]) -> Descriptor<'_>
     }
 }
 
-fn logical_volume(sector: &[u8; 2048]) -> Option<Descriptor<'_>>
+fn logical_volume(sector: &Sector) -> Option<Descriptor<'_>>
     ensures { λ r. ⌜ found r ≡ if-so (logical-volume-fits (now (sector .entry))) (logical-volume-in (now (sector .entry))) ⌝ }
 {
     if !logical_volume_holds(sector) {
@@ -95,7 +96,7 @@ fn logical_volume(sector: &[u8; 2048]) -> Option<Descriptor<'_>>
     })
 }
 
-fn unallocated_space(sector: &[u8; 2048]) -> Option<Descriptor<'_>>
+fn unallocated_space(sector: &Sector) -> Option<Descriptor<'_>>
     ensures { λ r. ⌜ found r ≡ if-so (unallocated-space-fits (now (sector .entry))) (unallocated-space-in (now (sector .entry))) ⌝ }
 {
     if !unallocated_space_holds(sector) {
@@ -109,7 +110,7 @@ fn unallocated_space(sector: &[u8; 2048]) -> Option<Descriptor<'_>>
     })
 }
 
-fn terminating(sector: &[u8; 2048]) -> Descriptor<'_>
+fn terminating(sector: &Sector) -> Descriptor<'_>
     ensures { λ r. ⌜ fields-of r ≡ terminating-in (now (sector .entry)) ⌝ }
 {
     Descriptor::Terminating {
@@ -117,7 +118,7 @@ fn terminating(sector: &[u8; 2048]) -> Descriptor<'_>
     }
 }
 
-fn integrity(sector: &[u8; 2048]) -> Option<Descriptor<'_>>
+fn integrity(sector: &Sector) -> Option<Descriptor<'_>>
     ensures { λ r. ⌜ found r ≡ if-so (integrity-fits (now (sector .entry))) (integrity-in (now (sector .entry))) ⌝ }
 {
     if !integrity_holds(sector) {
@@ -141,7 +142,7 @@ fn integrity(sector: &[u8; 2048]) -> Option<Descriptor<'_>>
 }
 
 // Check 4 in a sequence: the descriptor that the sector's kind is there.
-fn in_sequence(sector: &[u8; 2048]) -> Option<Descriptor<'_>>
+fn in_sequence(sector: &Sector) -> Option<Descriptor<'_>>
     ensures { λ r. ⌜ found r ≡ sequence-kind (u16-at (now (sector .entry)) 0) (now (sector .entry)) ⌝ }
 {
     match u16_at(sector, 0) {
@@ -156,7 +157,7 @@ fn in_sequence(sector: &[u8; 2048]) -> Option<Descriptor<'_>>
 }
 
 // Check 4 in the integrity extent.
-fn in_integrity_extent(sector: &[u8; 2048]) -> Option<Descriptor<'_>>
+fn in_integrity_extent(sector: &Sector) -> Option<Descriptor<'_>>
     ensures { λ r. ⌜ found r ≡ integrity-kind (u16-at (now (sector .entry)) 0) (now (sector .entry)) ⌝ }
 {
     match u16_at(sector, 0) {
@@ -167,7 +168,7 @@ fn in_integrity_extent(sector: &[u8; 2048]) -> Option<Descriptor<'_>>
 }
 
 // Check 4: the descriptor that the sector's kind is in its place.
-fn kind(sector: &[u8; 2048], place: Place) -> Option<Descriptor<'_>>
+fn kind(sector: &Sector, place: Place) -> Option<Descriptor<'_>>
     ensures { λ r. ⌜ found r ≡ kind-in place (now (sector .entry)) ⌝ }
 {
     match place {
@@ -179,7 +180,7 @@ fn kind(sector: &[u8; 2048], place: Place) -> Option<Descriptor<'_>>
 }
 
 // The four checks in their order.
-fn checked(sector: &[u8; 2048], number: u32, place: Place) -> Result<Descriptor<'_>, Refusal>
+fn checked(sector: &Sector, number: u32, place: Place) -> Result<Descriptor<'_>, Refusal>
     ensures { λ r. ⌜ answer r ≡ decoded (now (sector .entry)) number place ⌝ }
 {
     if !tag_holds(sector) {
@@ -198,7 +199,7 @@ fn checked(sector: &[u8; 2048], number: u32, place: Place) -> Result<Descriptor<
 }
 
 // The sector with this number, read in its place: what it holds, or the check that it fails first.
-pub fn decode(sector: &[u8; 2048], number: u32, place: Place) -> Result<Descriptor<'_>, Refusal>
+pub fn decode(sector: &Sector, number: u32, place: Place) -> Result<Descriptor<'_>, Refusal>
     ensures value { λ r. ⌜ answer r ≡ decoded (now (sector .entry)) number place ⌝ }
     ensures law { λ r. ⌜ Reading (now (sector .entry)) number place (answer r) ⌝ }
 {

@@ -3,6 +3,18 @@
 // The bytes of a sector, and of a logical block.
 pub const SECTOR_BYTES: usize = 2048;
 
+// A sector.
+pub type Sector = [u8; SECTOR_BYTES];
+
+// The identifier of a volume.
+pub type VolumeIdentifier = [u8; 32];
+
+// The identifier of a volume set or of a logical volume.
+pub type SetIdentifier = [u8; 128];
+
+// A recording date and time.
+pub type Timestamp = [u8; 12];
+
 // The most partition maps that a logical volume has here.
 pub const MOST_PARTITIONS: u32 = 8;
 

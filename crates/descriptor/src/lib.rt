@@ -4,4 +4,5 @@ pub mod decode;
 pub mod kinds;
 pub mod recognition;
 pub mod refusal;
+pub mod serial;
 pub mod tables;

@@ -2,6 +2,7 @@
 ghost use mathlib.Core.Path.{_≡_};
 ghost use Rattle.descriptor.specs.Law.{Recognition};
 ghost use Rattle.descriptor.specs.Recognition.{structure-in};
+use crate::kinds::Sector;
 use bytes::fields::byte_at;
 
 // The standard that a volume structure descriptor names.
@@ -14,7 +15,7 @@ pub enum Structure {
 }
 
 // The type, the version and the identifier, in turn.
-fn named(sector: &[u8; 2048]) -> Option<Structure>
+fn named(sector: &Sector) -> Option<Structure>
     ensures { λ r. ⌜ r ≡ structure-in (now (sector .entry)) ⌝ }
 {
     if byte_at(sector, 0) != 0 || byte_at(sector, 6) != 1 {
@@ -30,7 +31,7 @@ fn named(sector: &[u8; 2048]) -> Option<Structure>
 }
 
 // The volume structure descriptor that a sector is, if it is one: type 0, version 1, and one of four identifiers.
-pub fn recognise(sector: &[u8; 2048]) -> Option<Structure>
+pub fn recognise(sector: &Sector) -> Option<Structure>
     ensures value { λ r. ⌜ r ≡ structure-in (now (sector .entry)) ⌝ }
     ensures law { λ r. ⌜ Recognition (now (sector .entry)) r ⌝ }
 {

@@ -12,15 +12,19 @@ use bytes::fields::put_u16;
 use bytes::fields::put_u32;
 use descriptor::kinds::Extent;
 use descriptor::kinds::Partition;
+use descriptor::kinds::Sector;
+use descriptor::kinds::SetIdentifier;
+use descriptor::kinds::Timestamp;
+use descriptor::kinds::VolumeIdentifier;
 
 // The Primary Volume Descriptor.
 pub fn primary(
     stamp: Stamp,
     sequence: u32,
-    volume: &[u8; 32],
-    volume_set: &[u8; 128],
-    recorded: &[u8; 12],
-) -> [u8; 2048]
+    volume: &VolumeIdentifier,
+    volume_set: &SetIdentifier,
+    recorded: &Timestamp,
+) -> Sector
     ensures bytes { λ r. ⌜ r ≡ primary-bytes stamp sequence (now (volume .entry)) (now («volume_set» .entry)) (now (recorded .entry)) ⌝ }
     ensures read_back { λ r. ⌜ ReadsAs r stamp Sequence (primary-fields stamp sequence (now (volume .entry)) (now («volume_set» .entry)) (now (recorded .entry))) ⌝ }
 {
@@ -39,7 +43,7 @@ pub fn primary(
 }
 
 // The Anchor Volume Descriptor Pointer.
-pub fn anchor(stamp: Stamp, main: Extent, reserve: Extent) -> [u8; 2048]
+pub fn anchor(stamp: Stamp, main: Extent, reserve: Extent) -> Sector
     ensures bytes { λ r. ⌜ r ≡ anchor-bytes stamp main reserve ⌝ }
     ensures read_back { λ r. ⌜ ReadsAs r stamp Anchor (anchor-fields stamp main reserve) ⌝ }
 {
@@ -53,7 +57,7 @@ pub fn anchor(stamp: Stamp, main: Extent, reserve: Extent) -> [u8; 2048]
 }
 
 // The Partition Descriptor of a partition that has its space allocated.
-pub fn partition(stamp: Stamp, sequence: u32, partition: Partition) -> [u8; 2048]
+pub fn partition(stamp: Stamp, sequence: u32, partition: Partition) -> Sector
     ensures bytes { λ r. ⌜ r ≡ partition-bytes stamp sequence partition ⌝ }
     ensures read_back { λ r. ⌜ ReadsAs r stamp Sequence (partition-fields stamp sequence partition) ⌝ }
 {
@@ -69,7 +73,7 @@ pub fn partition(stamp: Stamp, sequence: u32, partition: Partition) -> [u8; 2048
 }
 
 // The Terminating Descriptor.
-pub fn terminating(stamp: Stamp) -> [u8; 2048]
+pub fn terminating(stamp: Stamp) -> Sector
     ensures bytes { λ r. ⌜ r ≡ terminating-bytes stamp ⌝ }
     ensures read_back { λ r. ⌜ ReadsAs r stamp Sequence (terminating-fields (stamp .serial)) ⌝ }
 {

@@ -6,9 +6,10 @@ ghost use Rattle.descriptor.specs.declared.recognition.Structure.the-variants.{
 ghost use Rattle.encode.specs.Recognition.{structure-bytes, named-bytes};
 use crate::seal::blank;
 use bytes::fields::put_bytes;
+use descriptor::kinds::Sector;
 
 // A volume structure descriptor: type 0, an identifier, version 1.
-fn named(identifier: &[u8; 5]) -> [u8; 2048]
+fn named(identifier: &[u8; 5]) -> Sector
     ensures { λ r. ⌜ r ≡ named-bytes (now (identifier .entry)) ⌝ }
 {
     let mut sector = blank();
@@ -18,7 +19,7 @@ fn named(identifier: &[u8; 5]) -> [u8; 2048]
 }
 
 // The Beginning Extended Area Descriptor.
-pub fn beginning_area() -> [u8; 2048]
+pub fn beginning_area() -> Sector
     ensures bytes { λ r. ⌜ r ≡ structure-bytes Bea01 ⌝ }
     ensures read_back { λ r. ⌜ structure-in r ≡ Some Bea01 ⌝ }
 {
@@ -26,7 +27,7 @@ pub fn beginning_area() -> [u8; 2048]
 }
 
 // The NSR Descriptor: descriptors of this volume are by the standard that it names.
-pub fn nsr() -> [u8; 2048]
+pub fn nsr() -> Sector
     ensures bytes { λ r. ⌜ r ≡ structure-bytes Nsr03 ⌝ }
     ensures read_back { λ r. ⌜ structure-in r ≡ Some Nsr03 ⌝ }
 {
@@ -34,7 +35,7 @@ pub fn nsr() -> [u8; 2048]
 }
 
 // The Terminating Extended Area Descriptor.
-pub fn terminating_area() -> [u8; 2048]
+pub fn terminating_area() -> Sector
     ensures bytes { λ r. ⌜ r ≡ structure-bytes Tea01 ⌝ }
     ensures read_back { λ r. ⌜ structure-in r ≡ Some Tea01 ⌝ }
 {

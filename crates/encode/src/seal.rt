@@ -7,6 +7,7 @@ use bytes::fields::put_bytes;
 use bytes::fields::put_u16;
 use bytes::fields::put_u32;
 use bytes::tag::sum_of;
+use descriptor::kinds::Sector;
 
 // What a tag says besides its descriptor's kind: the serial number that its set of descriptors bears, and the sector
 // where it stands.
@@ -17,7 +18,7 @@ pub struct Stamp {
 }
 
 // A sector of zeros.
-pub(crate) fn blank() -> [u8; 2048]
+pub(crate) fn blank() -> Sector
     ensures { λ r. ⌜ r ≡ zeros 2048 ⌝ }
 {
     [0; 2048]
@@ -39,7 +40,7 @@ fn tag_of(kind: u16, stamp: Stamp, crc: u16) -> [u8; 16]
 }
 
 // Puts the tag on a sector whose other bytes stand.
-pub(crate) fn seal(sector: &mut [u8; 2048], kind: u16, stamp: Stamp)
+pub(crate) fn seal(sector: &mut Sector, kind: u16, stamp: Stamp)
     ensures { λ _. ⌜ now (sector .exit) ≡ sealed kind stamp (now (sector .entry)) ⌝ }
 {
     let crc = crc_of(&sector[16..512]);

@@ -24,15 +24,18 @@ use descriptor::kinds::Integrity;
 use descriptor::kinds::MOST_PAIRS;
 use descriptor::kinds::MOST_PARTITIONS;
 use descriptor::kinds::Partition;
+use descriptor::kinds::Sector;
+use descriptor::kinds::SetIdentifier;
+use descriptor::kinds::Timestamp;
 
 // The Logical Volume Descriptor, with a map of each partition.
 pub fn logical_volume(
     stamp: Stamp,
     sequence: u32,
-    identifier: &[u8; 128],
+    identifier: &SetIdentifier,
     partitions: &[Partition],
     integrity: Extent,
-) -> Result<[u8; 2048], OffLimits>
+) -> Result<Sector, OffLimits>
     ensures bytes { λ r. ⌜ r ≡ within-partitions (now (partitions .entry)) (logical-volume-bytes stamp sequence (now (identifier .entry)) (now (partitions .entry)) integrity) ⌝ }
     ensures read_back { λ r. ⌜ made r (λ s. ReadsAs s stamp Sequence (logical-volume-fields stamp sequence (now (identifier .entry)) (now (partitions .entry)) integrity) × MapsBack (now (partitions .entry))) ⌝ }
 {
@@ -58,7 +61,7 @@ pub fn unallocated_space(
     stamp: Stamp,
     sequence: u32,
     free: &[FreePair],
-) -> Result<[u8; 2048], OffLimits>
+) -> Result<Sector, OffLimits>
     ensures bytes { λ r. ⌜ r ≡ within-pairs (now (free .entry)) (unallocated-space-bytes stamp sequence (now (free .entry))) ⌝ }
     ensures read_back { λ r. ⌜ made r (λ s. ReadsAs s stamp Sequence (unallocated-space-fields stamp sequence (now (free .entry))) × ExtentsBack (now (free .entry))) ⌝ }
 {
@@ -89,10 +92,10 @@ fn integrity_type(state: Integrity) -> u32
 // The Logical Volume Integrity Descriptor, open or closed, with the size of each partition.
 pub fn integrity(
     stamp: Stamp,
-    recorded: &[u8; 12],
+    recorded: &Timestamp,
     state: Integrity,
     partitions: &[Partition],
-) -> Result<[u8; 2048], OffLimits>
+) -> Result<Sector, OffLimits>
     ensures bytes { λ r. ⌜ r ≡ within-partitions (now (partitions .entry)) (integrity-bytes stamp (now (recorded .entry)) state (now (partitions .entry))) ⌝ }
     ensures read_back { λ r. ⌜ made r (λ s. ReadsAs s stamp IntegrityExtent (integrity-fields stamp (now (recorded .entry)) state (now (partitions .entry)) (length (now (partitions .entry)))) × SizesBack (now (partitions .entry))) ⌝ }
 {

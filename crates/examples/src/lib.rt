@@ -2,6 +2,7 @@
 ghost use mathlib.Core.Path.{_≡_};
 ghost use Rattle.examples.specs.Settled.{example-sector, Settled};
 use bytes::fields::put_bytes;
+use descriptor::kinds::Sector;
 
 // The tag of the example.
 const TAG: [u8; 16] = [
@@ -24,7 +25,7 @@ const TAG: [u8; 16] = [
 ];
 
 // A Terminating Descriptor for sector 37, byte by byte, and with it every settled example.
-pub fn terminating_example() -> [u8; 2048]
+pub fn terminating_example() -> Sector
     ensures value { λ r. ⌜ r ≡ example-sector ⌝ }
     ensures settled { λ _. ⌜ Settled ⌝ }
 {

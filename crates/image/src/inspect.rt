@@ -7,6 +7,7 @@ ghost use Rattle.inspection.specs.Findings.{examined, found-in};
 ghost use Rattle.image.specs.Reports.{told, Met};
 use crate::fault::Fault;
 use crate::fault::FaultFromIo;
+use descriptor::kinds::Sector;
 use inspection::finding::Finding;
 use inspection::finding::examine;
 use inspection::summary::Summary;
@@ -33,7 +34,7 @@ fn worth_telling(finding: Finding<'_>) -> bool
 pub fn report(
     rt: &LibcRuntime,
     number: u32,
-    sector: &[u8; 2048],
+    sector: &Sector,
     summary: &mut Summary,
 ) -> io::Result<()>
     ensures noted { λ _. ⌜ now (summary .exit) ≡ noted (examined (now (sector .entry)) number) (now (summary .entry)) ⌝ }
@@ -49,7 +50,7 @@ pub fn report(
 }
 
 // Fills a sector from a source, and answers how many bytes came before the source ended.
-pub fn fill<R: Read>(source: &mut R, sector: &mut [u8; 2048]) -> io::Result<usize>
+pub fn fill<R: Read>(source: &mut R, sector: &mut Sector) -> io::Result<usize>
     ensures { λ r. ⌜ made r (λ n. n ≤ 2048) ⌝ }
 {
     let mut filled = 0;

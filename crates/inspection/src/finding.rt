@@ -6,6 +6,7 @@ use descriptor::checks::sum_holds;
 use descriptor::decode::decode;
 use descriptor::kinds::Descriptor;
 use descriptor::kinds::Place;
+use descriptor::kinds::Sector;
 use descriptor::recognition::Structure;
 use descriptor::recognition::recognise;
 use descriptor::refusal::Refusal;
@@ -26,7 +27,7 @@ pub enum Finding<'a> {
 }
 
 // Whether the tag's sixteen bytes are all zero.
-fn is_blank(sector: &[u8; 2048]) -> bool
+fn is_blank(sector: &Sector) -> bool
     ensures { λ r. ⌜ r ≡ tag-blank (now (sector .entry)) ⌝ }
 {
     let tag = &sector[0..16];
@@ -39,7 +40,7 @@ fn is_blank(sector: &[u8; 2048]) -> bool
 }
 
 // What a sector is that is a descriptor in no place, for a reason.
-fn undescribed(sector: &[u8; 2048], reason: Refusal) -> Finding<'_>
+fn undescribed(sector: &Sector, reason: Refusal) -> Finding<'_>
     ensures { λ r. ⌜ found-in r ≡ no-descriptor (now (sector .entry)) reason (structure-in (now (sector .entry))) ⌝ }
 {
     match recognise(sector) {
@@ -51,7 +52,7 @@ fn undescribed(sector: &[u8; 2048], reason: Refusal) -> Finding<'_>
 }
 
 // The places in turn.
-fn tried(sector: &[u8; 2048], number: u32) -> Finding<'_>
+fn tried(sector: &Sector, number: u32) -> Finding<'_>
     ensures { λ r. ⌜ found-in r ≡ examined (now (sector .entry)) number ⌝ }
 {
     if let Ok(found) = decode(sector, number, Place::Anchor) {
@@ -67,7 +68,7 @@ fn tried(sector: &[u8; 2048], number: u32) -> Finding<'_>
 }
 
 // What the sector with this number is: the first place in which it is a descriptor, else what else it is.
-pub fn examine(sector: &[u8; 2048], number: u32) -> Finding<'_>
+pub fn examine(sector: &Sector, number: u32) -> Finding<'_>
     ensures value { λ r. ⌜ found-in r ≡ examined (now (sector .entry)) number ⌝ }
     ensures law { λ r. ⌜ Examined (now (sector .entry)) number (found-in r) ⌝ }
 {

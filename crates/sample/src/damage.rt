@@ -4,9 +4,10 @@ ghost use Rattle.sample.specs.Damage.{bit-turned, sum-mended, aged, small-bloc
 use bytes::fields::put_u16;
 use bytes::fields::put_u32;
 use bytes::tag::sum_of;
+use descriptor::kinds::Sector;
 
 // Turns the lowest bit of a byte, if the sector has that byte.
-pub fn turn_bit(sector: &mut [u8; 2048], at: usize)
+pub fn turn_bit(sector: &mut Sector, at: usize)
     ensures { λ _. ⌜ now (sector .exit) ≡ bit-turned at (now (sector .entry)) ⌝ }
 {
     if at < 2048 {
@@ -15,14 +16,14 @@ pub fn turn_bit(sector: &mut [u8; 2048], at: usize)
 }
 
 // Makes the tag's sum right again.
-pub fn mend_sum(sector: &mut [u8; 2048])
+pub fn mend_sum(sector: &mut Sector)
     ensures { λ _. ⌜ now (sector .exit) ≡ sum-mended (now (sector .entry)) ⌝ }
 {
     sector[4] = sum_of(&sector[0..16]);
 }
 
 // Makes the descriptor one of version 2.
-pub fn age(sector: &mut [u8; 2048])
+pub fn age(sector: &mut Sector)
     ensures { λ _. ⌜ now (sector .exit) ≡ aged (now (sector .entry)) ⌝ }
 {
     put_u16(sector, 2, 2);
@@ -30,7 +31,7 @@ pub fn age(sector: &mut [u8; 2048])
 }
 
 // Makes a logical volume one of smaller blocks, with no byte under its CRC.
-pub fn shrink_blocks(sector: &mut [u8; 2048])
+pub fn shrink_blocks(sector: &mut Sector)
     ensures { λ _. ⌜ now (sector .exit) ≡ small-blocks (now (sector .entry)) ⌝ }
 {
     put_u32(sector, 212, 512);

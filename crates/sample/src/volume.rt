@@ -8,6 +8,9 @@ use bytes::fields::put_bytes;
 use descriptor::kinds::Extent;
 use descriptor::kinds::FreePair;
 use descriptor::kinds::Partition;
+use descriptor::kinds::SetIdentifier;
+use descriptor::kinds::Timestamp;
+use descriptor::kinds::VolumeIdentifier;
 
 // The serial number that the sample's descriptors bear.
 pub const SERIAL: u16 = 1;
@@ -29,10 +32,10 @@ pub const INTEGRITY: Extent = Extent {
 };
 
 // The date: 17 November 2026, 9:30:00, in Coordinated Universal Time.
-pub const DATE: [u8; 12] = [0, 0, 0xEA, 0x07, 11, 17, 9, 30, 0, 0, 0, 0];
+pub const DATE: Timestamp = [0, 0, 0xEA, 0x07, 11, 17, 9, 30, 0, 0, 0, 0];
 
 // A volume identifier of some text, which it cuts or fills with zeros.
-pub fn short_name(text: &[u8]) -> [u8; 32]
+pub fn short_name(text: &[u8]) -> VolumeIdentifier
     ensures { λ r. ⌜ r ≡ put 0 (now (text .entry)) (zeros 32) ⌝ }
 {
     let mut name = [0u8; 32];
@@ -41,7 +44,7 @@ pub fn short_name(text: &[u8]) -> [u8; 32]
 }
 
 // A volume set or logical volume identifier of some text.
-pub fn long_name(text: &[u8]) -> [u8; 128]
+pub fn long_name(text: &[u8]) -> SetIdentifier
     ensures { λ r. ⌜ r ≡ put 0 (now (text .entry)) (zeros 128) ⌝ }
 {
     let mut name = [0u8; 128];

@@ -5,6 +5,7 @@ ghost use Rattle.std.specs.Vec.{made};
 ghost use Rattle.inspection.specs.Counts.{all-met};
 ghost use Rattle.image.specs.Reports.{Met};
 use descriptor::kinds::Integrity;
+use descriptor::kinds::Sector;
 use encode::descriptors::anchor;
 use encode::descriptors::partition;
 use encode::descriptors::primary;
@@ -64,7 +65,7 @@ fn show_system(rt: &LibcRuntime, summary: &mut Summary) -> io::Result<()>
 }
 
 // The logical volume of the sample.
-fn sample_volume(location: u32) -> Result<[u8; 2048], OffLimits> {
+fn sample_volume(location: u32) -> Result<Sector, OffLimits> {
     logical_volume(
         at(location),
         3,

@@ -7,6 +7,7 @@ use descriptor::kinds::Integrity;
 use descriptor::kinds::Partition;
 use descriptor::recognition::Structure;
 use descriptor::refusal::Refusal;
+use descriptor::serial::serial_of;
 use descriptor::tables::extent_row;
 use descriptor::tables::map_row;
 use inspection::finding::Finding;
@@ -187,91 +188,117 @@ pub impl fmt::Display for Allotted as AllottedDisplay {
     }
 }
 
-// A descriptor: its kind, its serial and its main fields.
+// The name of a descriptor's kind.
 #[derive(Clone, Copy)]
-pub struct Described<'a>(pub Descriptor<'a>);
+pub struct KindName<'a>(pub Descriptor<'a>);
 
-pub impl fmt::Display for Described<'_> as DescribedDisplay {
+pub impl fmt::Display for KindName<'_> as KindNameDisplay {
+    fn fmt<W: fmt::Write>(&self, f: &mut fmt::Formatter<W>) -> fmt::Result {
+        match self.0 {
+            Descriptor::Primary { .. } => write!(f, "Primary Volume Descriptor"),
+            Descriptor::Anchor { .. } => write!(f, "Anchor Volume Descriptor Pointer"),
+            Descriptor::ImplementationUse { .. } => write!(
+                f,
+                "Implementation Use Volume Descriptor"
+            ),
+            Descriptor::Partition { .. } => write!(f, "Partition Descriptor"),
+            Descriptor::LogicalVolume { .. } => write!(f, "Logical Volume Descriptor"),
+            Descriptor::UnallocatedSpace { .. } => write!(f, "Unallocated Space Descriptor"),
+            Descriptor::Terminating { .. } => write!(f, "Terminating Descriptor"),
+            Descriptor::Integrity { .. } => write!(f, "Logical Volume Integrity Descriptor"),
+        }
+    }
+}
+
+// The sequence number of a descriptor that has one.
+#[derive(Clone, Copy)]
+pub struct Sequenced<'a>(pub Descriptor<'a>);
+
+pub impl fmt::Display for Sequenced<'_> as SequencedDisplay {
+    fn fmt<W: fmt::Write>(&self, f: &mut fmt::Formatter<W>) -> fmt::Result {
+        match self.0 {
+            Descriptor::Primary { sequence, .. } => write!(f, ", sequence number {sequence}"),
+            Descriptor::ImplementationUse { sequence, .. } => write!(
+                f,
+                ", sequence number {sequence}"
+            ),
+            Descriptor::Partition { sequence, .. } => write!(f, ", sequence number {sequence}"),
+            Descriptor::LogicalVolume { sequence, .. } => write!(f, ", sequence number {sequence}"),
+            Descriptor::UnallocatedSpace { sequence, .. } => write!(
+                f,
+                ", sequence number {sequence}"
+            ),
+            _ => Ok(()),
+        }
+    }
+}
+
+// The main fields of the descriptors of a volume as a whole.
+#[derive(Clone, Copy)]
+pub struct VolumeFields<'a>(pub Descriptor<'a>);
+
+pub impl fmt::Display for VolumeFields<'_> as VolumeFieldsDisplay {
     fn fmt<W: fmt::Write>(&self, f: &mut fmt::Formatter<W>) -> fmt::Result {
         match self.0 {
             Descriptor::Primary {
-                serial,
-                sequence,
                 volume,
                 volume_set,
                 recorded,
+                ..
             } => {
                 let volume = Name(volume);
                 let volume_set = Name(volume_set);
                 let recorded = Date(recorded);
                 write!(
                     f,
-                    "Primary Volume Descriptor, serial {serial}, sequence number {sequence}, volume \"{volume}\", volume set \"{volume_set}\", recorded {recorded}"
+                    ", volume \"{volume}\", volume set \"{volume_set}\", recorded {recorded}"
                 )
             }
-            Descriptor::Anchor {
-                serial,
-                main,
-                reserve,
-            } => {
+            Descriptor::Anchor { main, reserve, .. } => {
                 let main = Span(main);
                 let reserve = Span(reserve);
-                write!(
-                    f,
-                    "Anchor Volume Descriptor Pointer, serial {serial}, main sequence {main}, reserve sequence {reserve}"
-                )
-            }
-            Descriptor::ImplementationUse { serial, sequence } => {
-                write!(
-                    f,
-                    "Implementation Use Volume Descriptor, serial {serial}, sequence number {sequence}"
-                )
-            }
-            Descriptor::Partition {
-                serial,
-                sequence,
-                flags,
-                partition,
-            } => {
-                let partition = Allotted(partition, flags);
-                write!(
-                    f,
-                    "Partition Descriptor, serial {serial}, sequence number {sequence}, {partition}"
-                )
+                write!(f, ", main sequence {main}, reserve sequence {reserve}")
             }
             Descriptor::LogicalVolume {
-                serial,
-                sequence,
                 identifier,
                 block_size,
                 maps,
                 integrity,
+                ..
             } => {
                 let identifier = Name(identifier);
                 let maps = Maps(maps);
                 let integrity = Span(integrity);
                 write!(
                     f,
-                    "Logical Volume Descriptor, serial {serial}, sequence number {sequence}, volume \"{identifier}\", blocks of {block_size} bytes, integrity extent {integrity}, {maps}"
+                    ", volume \"{identifier}\", blocks of {block_size} bytes, integrity extent {integrity}, {maps}"
                 )
             }
-            Descriptor::UnallocatedSpace {
-                serial,
-                sequence,
-                extents,
+            _ => Ok(()),
+        }
+    }
+}
+
+// The main fields of the descriptors of a volume's parts.
+#[derive(Clone, Copy)]
+pub struct PartFields<'a>(pub Descriptor<'a>);
+
+pub impl fmt::Display for PartFields<'_> as PartFieldsDisplay {
+    fn fmt<W: fmt::Write>(&self, f: &mut fmt::Formatter<W>) -> fmt::Result {
+        match self.0 {
+            Descriptor::Partition {
+                flags,
+                partition,
+                ..
             } => {
-                let extents = Free(extents);
-                write!(
-                    f,
-                    "Unallocated Space Descriptor, serial {serial}, sequence number {sequence}, {extents}"
-                )
+                let partition = Allotted(partition, flags);
+                write!(f, ", {partition}")
             }
-            Descriptor::Terminating { serial } => write!(
-                f,
-                "Terminating Descriptor, serial {serial}"
-            ),
+            Descriptor::UnallocatedSpace { extents, .. } => {
+                let extents = Free(extents);
+                write!(f, ", {extents}")
+            }
             Descriptor::Integrity {
-                serial,
                 recorded,
                 state,
                 next,
@@ -283,10 +310,26 @@ pub impl fmt::Display for Described<'_> as DescribedDisplay {
                 let next = Span(next);
                 write!(
                     f,
-                    "Logical Volume Integrity Descriptor, serial {serial}, {state}, partitions: {partitions}, next extent {next}, recorded {recorded}"
+                    ", {state}, partitions: {partitions}, next extent {next}, recorded {recorded}"
                 )
             }
+            _ => Ok(()),
         }
+    }
+}
+
+// A descriptor: its kind, its serial and its main fields.
+#[derive(Clone, Copy)]
+pub struct Described<'a>(pub Descriptor<'a>);
+
+pub impl fmt::Display for Described<'_> as DescribedDisplay {
+    fn fmt<W: fmt::Write>(&self, f: &mut fmt::Formatter<W>) -> fmt::Result {
+        let kind = KindName(self.0);
+        let serial = serial_of(self.0);
+        let sequence = Sequenced(self.0);
+        let volume = VolumeFields(self.0);
+        let part = PartFields(self.0);
+        write!(f, "{kind}, serial {serial}{sequence}{volume}{part}")
     }
 }
 
