@@ -51,5 +51,6 @@ pub fn put_u16(area: &mut [u8], at: usize, value: u16)
 pub fn put_u32(area: &mut [u8], at: usize, value: u32)
     ensures { λ _. ⌜ now (area .exit) ≡ put at (le32 value) (now (area .entry)) ⌝ }
 {
-    put_bytes(area, at, &value.to_le_bytes());
+    let bytes = value.to_le_bytes();
+    put_bytes(area, at, &bytes);
 }

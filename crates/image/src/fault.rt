@@ -1,10 +1,8 @@
 // Why the tool could not do what it was asked.
 ghost use mathlib.Core.Path.{_≡_};
-ghost use Rattle.image.specs.declared.fault.Fault.the-variants.{Memory, Io, OffLimits as Limit};
+ghost use Rattle.image.specs.declared.fault.Fault.the-variants.{Io, OffLimits as Limit};
 use encode::limits::OffLimits;
 use encode::limits::OffLimitsDebug;
-use std::alloc::AllocError;
-use std::alloc::Refused;
 use std::error::Error;
 use std::fmt;
 use std::io;
@@ -12,8 +10,6 @@ use std::io;
 // A fault of the tool.
 #[derive(Debug, Drop)]
 pub enum Fault {
-    // no memory
-    Memory,
     // the system refused to open, read or print
     Io(io::Error),
     // a descriptor would pass a limit
@@ -28,42 +24,25 @@ pub enum Fault {
     Usage,
 }
 
-pub impl From<AllocError> for Fault as FaultFromAlloc {
-    ghost converts = { λ _ r. r ≡ Memory };
-
-    fn from(_e: AllocError) -> Fault {
-        Fault::Memory
-    }
-}
-
-pub impl<T: Drop> From<Refused<T>> for Fault as FaultFromRefused {
-    ghost converts = { λ _ r. r ≡ Memory };
-
-    fn from(_e: Refused<T>) -> Fault {
-        Fault::Memory
-    }
-}
-
 pub impl From<io::Error> for Fault as FaultFromIo {
     ghost converts = { λ e r. r ≡ Io e };
 
-    fn from(e: io::Error) -> Fault {
-        Fault::Io(e)
+    fn from(refused: io::Error) -> Fault {
+        Fault::Io(refused)
     }
 }
 
 pub impl From<OffLimits> for Fault as FaultFromOffLimits {
     ghost converts = { λ e r. r ≡ Limit e };
 
-    fn from(e: OffLimits) -> Fault {
-        Fault::OffLimits(e)
+    fn from(passed: OffLimits) -> Fault {
+        Fault::OffLimits(passed)
     }
 }
 
 pub impl fmt::Display for Fault as FaultDisplay {
     fn fmt<W: fmt::Write>(&self, f: &mut fmt::Formatter<W>) -> fmt::Result {
         match self {
-            Fault::Memory => write!(f, "no memory"),
             Fault::Io(e) => {
                 let e = *e;
                 write!(f, "{e}")
