@@ -17,6 +17,7 @@ use Rattle.descriptor.specs.declared.recognition.Structure.{Structure}
 use Rattle.descriptor.specs.Recognition.{code-of}
 use Rattle.descriptor.specs.declared.refusal.Refusal.{Refusal}
 use Rattle.descriptor.specs.declared.refusal.Refusal.the-variants as refusal
+use Rattle.descriptor.specs.Limits.{sector-bytes, most-covered, most-partitions, most-pairs}
 use Rattle.descriptor.specs.Kinds.{Fields}
 use Rattle.descriptor.specs.Decode.{primary-in, anchor-in, implementation-use-in, partition-in, logical-volume-in, unallocated-space-in, terminating-in, integrity-in}
 
@@ -32,22 +33,22 @@ LocationRight bs number = u32-at bs 12 ≡ number
 
 -- check 3
 pub record CrcRight (bs : List ℕ) : Type 0 where
-  pub covered : u16-at bs 10 ≤ 2032
+  pub covered : u16-at bs 10 ≤ most-covered
   pub equal : u16-at bs 8 ≡ crc (part bs 16 (u16-at bs 10))
 
 -- check 4, the limits of three kinds
 pub record LogicalVolumeRight (bs : List ℕ) : Type 0 where
-  pub block-size : u32-at bs 212 ≡ 2048
-  pub maps : u32-at bs 268 ≤ 8
+  pub block-size : u32-at bs 212 ≡ sector-bytes
+  pub maps : u32-at bs 268 ≤ most-partitions
   pub table : u32-at bs 264 ≡ 6 * u32-at bs 268
 
 pub record UnallocatedSpaceRight (bs : List ℕ) : Type 0 where
-  pub extents : u32-at bs 20 ≤ 16
-  pub lengths : (i : ℕ) → i < u32-at bs 20 → u32-at bs (24 + 8 * i) % 2048 ≡ 0
+  pub extents : u32-at bs 20 ≤ most-pairs
+  pub lengths : (i : ℕ) → i < u32-at bs 20 → u32-at bs (24 + 8 * i) % sector-bytes ≡ 0
 
 pub record IntegrityRight (bs : List ℕ) : Type 0 where
   pub state : u32-at bs 28 ≤ 1
-  pub partitions : u32-at bs 72 ≤ 8
+  pub partitions : u32-at bs 72 ≤ most-partitions
 
 -- check 4: a sector's kind suits its place, and these are the descriptor's parts, each at its position
 pub data Suits (bs : List ℕ) : Place → Fields → Type 0 where

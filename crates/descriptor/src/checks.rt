@@ -2,6 +2,7 @@
 ghost use Prim.Native.Nat.{_≤_};
 ghost use mathlib.Core.Path.{_≡_};
 ghost use Rattle.descriptor.specs.Checks.{sum-stands, tag-stands, location-stands, crc-stands, logical-volume-fits, whole-lengths, unallocated-space-fits, integrity-fits};
+use crate::kinds::BLOCK_BYTES;
 use crate::kinds::MOST_PAIRS;
 use crate::kinds::MOST_PARTITIONS;
 use crate::kinds::Sector;
@@ -55,7 +56,7 @@ pub(crate) fn logical_volume_holds(sector: &Sector) -> bool
     ensures { λ r. ⌜ r ≡ logical-volume-fits (now (sector .entry)) ⌝ }
 {
     let maps = u32_at(sector, 268);
-    u32_at(sector, 212) == 2048 && maps <= MOST_PARTITIONS && u32_at(sector, 264) == 6 * maps
+    u32_at(sector, 212) == BLOCK_BYTES && maps <= MOST_PARTITIONS && u32_at(sector, 264) == 6 * maps
 }
 
 // Whether the first extents of unallocated space, as many as are asked for, have lengths in whole sectors.
@@ -64,7 +65,7 @@ fn lengths_whole(sector: &Sector, count: u32) -> bool
     ensures { λ r. ⌜ r ≡ whole-lengths (now (sector .entry)) count ⌝ }
 {
     for row in 0..count {
-        if u32_at(sector, 24 + 8 * row as usize) % 2048 != 0 {
+        if u32_at(sector, 24 + 8 * row as usize) % BLOCK_BYTES != 0 {
             return false;
         }
     }

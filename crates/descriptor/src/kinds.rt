@@ -3,6 +3,9 @@
 // The bytes of a sector, and of a logical block.
 pub const SECTOR_BYTES: usize = 2048;
 
+// The bytes of a logical block, as a descriptor has them.
+pub const BLOCK_BYTES: u32 = 2048;
+
 // A sector.
 pub type Sector = [u8; SECTOR_BYTES];
 

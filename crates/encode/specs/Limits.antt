@@ -7,6 +7,7 @@ use lib.ListN.{length}
 use Rattle.std.specs.declared.result.Result.{Result}
 use Rattle.std.specs.declared.result.Result.the-variants.{Ok, Err}
 use Rattle.bytes.specs.Every.{every}
+use Rattle.descriptor.specs.Limits.{most-partitions, most-pairs}
 use Rattle.descriptor.specs.declared.kinds.FreePair.{FreePair}
 use Rattle.descriptor.specs.declared.kinds.Partition.{Partition}
 use Rattle.encode.specs.declared.limits.OffLimits.{OffLimits}
@@ -17,17 +18,21 @@ limit-number Partitions = 34
 limit-number Pairs = 34
 limit-number PairLength = 34
 
--- each free pair has at most 524,287 sectors: an extent is shorter than 2^30 bytes
+-- the most sectors of a free pair: an extent is shorter than 2^30 bytes
+abbrev pub most-pair-sectors : ℕ
+most-pair-sectors = 524287
+
+-- each free pair is short enough
 abbrev pub short : FreePair → Bool
-short pair = leb (pair .count) 524287
+short pair = leb (pair .count) most-pair-sectors
 
 abbrev pub all-short : List FreePair → Bool
 all-short free = every short free
 
 -- a sector with a row for each partition is written for at most 8 of them
 abbrev pub within-partitions : List Partition → List ℕ → Result (List ℕ) OffLimits
-within-partitions partitions bytes = cond (leb (length partitions) 8) (Ok bytes) (Err Partitions)
+within-partitions partitions bytes = cond (leb (length partitions) most-partitions) (Ok bytes) (Err Partitions)
 
 -- one with a row for each free pair, for at most 16 of them, none too long
 abbrev pub within-pairs : List FreePair → List ℕ → Result (List ℕ) OffLimits
-within-pairs free bytes = cond (leb (length free) 16) (cond (all-short free) (Ok bytes) (Err PairLength)) (Err Pairs)
+within-pairs free bytes = cond (leb (length free) most-pairs) (cond (all-short free) (Ok bytes) (Err PairLength)) (Err Pairs)

@@ -6,6 +6,7 @@ use Rattle.std.specs.Joined.{joined}
 use Rattle.std.specs.declared.result.Result.{Result}
 use Rattle.std.specs.declared.result.Result.the-variants.{Ok}
 use Rattle.bytes.specs.Rows.{whole-rows}
+use Rattle.descriptor.specs.Limits.{sector-bytes}
 use Rattle.descriptor.specs.declared.kinds.Extent.{Extent}
 use Rattle.descriptor.specs.declared.kinds.FreePair.{FreePair}
 use Rattle.descriptor.specs.declared.kinds.Integrity.{Integrity}
@@ -39,7 +40,7 @@ logical-volume-fields stamp sequence identifier partitions extent =
       serial = stamp .serial;
       sequence = sequence;
       identifier = identifier;
-      block-size = 2048;
+      block-size = sector-bytes;
       maps = joined map-bytes partitions;
       integrity = extent;
     })
@@ -63,7 +64,7 @@ abbrev pub map-to : Partition → PartitionMap
 map-to p = record { kind = 1; length = 6; volume = 1; number = p .number }
 
 abbrev pub extent-to : FreePair → Extent
-extent-to f = record { length = f .count * 2048; location = f .first }
+extent-to f = record { length = f .count * sector-bytes; location = f .first }
 
 abbrev pub MapsBack : List Partition → Type 0
 MapsBack partitions = map map-of (whole-rows 6 (joined map-bytes partitions)) ≡ map map-to partitions

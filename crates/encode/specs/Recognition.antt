@@ -2,11 +2,12 @@
 use Prim.Native.Nat.{ℕ}
 use mathlib.Core.List.{List, [], _∷_}
 use Rattle.bytes.specs.Fields.{laid, zeros}
+use Rattle.descriptor.specs.Limits.{sector-bytes}
 use Rattle.descriptor.specs.declared.recognition.Structure.{Structure}
 use Rattle.descriptor.specs.Recognition.{code-of}
 
 unfoldable pub named-bytes : (identifier : List ℕ) → List ℕ
-named-bytes identifier = laid ((1, identifier) ∷ (6, 1 ∷ []) ∷ []) (zeros 2048)
+named-bytes identifier = laid ((1, identifier) ∷ (6, 1 ∷ []) ∷ []) (zeros sector-bytes)
 
 abbrev pub structure-bytes : Structure → List ℕ
 structure-bytes which = named-bytes (code-of which)

@@ -4,6 +4,7 @@ use mathlib.Core.List.{List, [], _∷_, _++_}
 use lib.ListN.{length}
 use Rattle.std.specs.Joined.{joined}
 use Rattle.bytes.specs.Fields.{laid, zeros, exactly, le16, le32}
+use Rattle.descriptor.specs.Limits.{sector-bytes}
 use Rattle.descriptor.specs.declared.kinds.Extent.{Extent}
 use Rattle.descriptor.specs.declared.kinds.FreePair.{FreePair}
 use Rattle.descriptor.specs.declared.kinds.Integrity.{Integrity}
@@ -27,7 +28,7 @@ primary-body sequence volume volume-set recorded =
     ∷ (376, exactly 12 recorded)
     ∷ (488, le16 1)
     ∷ []
-    ) (zeros 2048)
+    ) (zeros sector-bytes)
 
 unfoldable pub primary-bytes : Stamp → (sequence : ℕ) (volume volume-set recorded : List ℕ) → List ℕ
 primary-bytes stamp sequence volume volume-set recorded = sealed 1 stamp (primary-body sequence volume volume-set recorded)
@@ -35,7 +36,7 @@ primary-bytes stamp sequence volume volume-set recorded = sealed 1 stamp (primar
 -- Anchor Volume Descriptor Pointer: the extents of the main and of the reserve sequence
 abbrev pub anchor-body : (main reserve : Extent) → List ℕ
 anchor-body main reserve =
-    laid ((16, le32 (main .length)) ∷ (20, le32 (main .location)) ∷ (24, le32 (reserve .length)) ∷ (28, le32 (reserve .location)) ∷ []) (zeros 2048)
+    laid ((16, le32 (main .length)) ∷ (20, le32 (main .location)) ∷ (24, le32 (reserve .length)) ∷ (28, le32 (reserve .location)) ∷ []) (zeros sector-bytes)
 
 unfoldable pub anchor-bytes : Stamp → (main reserve : Extent) → List ℕ
 anchor-bytes stamp main reserve = sealed 2 stamp (anchor-body main reserve)
@@ -51,7 +52,7 @@ partition-body sequence partition =
     ∷ (188, le32 (partition .first))
     ∷ (192, le32 (partition .count))
     ∷ []
-    ) (zeros 2048)
+    ) (zeros sector-bytes)
 
 unfoldable pub partition-bytes : Stamp → (sequence : ℕ) → Partition → List ℕ
 partition-bytes stamp sequence partition = sealed 5 stamp (partition-body sequence partition)
@@ -66,32 +67,32 @@ logical-volume-body sequence identifier partitions integrity =
     laid (
     (16, le32 sequence)
     ∷ (84, exactly 128 identifier)
-    ∷ (212, le32 2048)
+    ∷ (212, le32 sector-bytes)
     ∷ (264, le32 (6 * length partitions))
     ∷ (268, le32 (length partitions))
     ∷ (432, le32 (integrity .length))
     ∷ (436, le32 (integrity .location))
     ∷ (440, joined map-bytes partitions)
     ∷ []
-    ) (zeros 2048)
+    ) (zeros sector-bytes)
 
 unfoldable pub logical-volume-bytes : Stamp → (sequence : ℕ) (identifier : List ℕ) → List Partition → (integrity : Extent) → List ℕ
 logical-volume-bytes stamp sequence identifier partitions integrity = sealed 6 stamp (logical-volume-body sequence identifier partitions integrity)
 
 -- a free pair as an extent: its length in bytes, and its first sector
 abbrev pub pair-bytes : FreePair → List ℕ
-pair-bytes pair = le32 (pair .count * 2048) ++ le32 (pair .first)
+pair-bytes pair = le32 (pair .count * sector-bytes) ++ le32 (pair .first)
 
 -- Unallocated Space Descriptor: sequence number, count of extents, extents
 abbrev pub unallocated-space-body : (sequence : ℕ) → List FreePair → List ℕ
-unallocated-space-body sequence free = laid ((16, le32 sequence) ∷ (20, le32 (length free)) ∷ (24, joined pair-bytes free) ∷ []) (zeros 2048)
+unallocated-space-body sequence free = laid ((16, le32 sequence) ∷ (20, le32 (length free)) ∷ (24, joined pair-bytes free) ∷ []) (zeros sector-bytes)
 
 unfoldable pub unallocated-space-bytes : Stamp → (sequence : ℕ) → List FreePair → List ℕ
 unallocated-space-bytes stamp sequence free = sealed 7 stamp (unallocated-space-body sequence free)
 
 -- Terminating Descriptor: nothing but its tag
 unfoldable pub terminating-bytes : Stamp → List ℕ
-terminating-bytes stamp = sealed 8 stamp (zeros 2048)
+terminating-bytes stamp = sealed 8 stamp (zeros sector-bytes)
 
 -- an integrity descriptor's type
 abbrev pub type-of : Integrity → ℕ
@@ -114,7 +115,7 @@ integrity-body recorded state partitions =
     ∷ (72, le32 (length partitions))
     ∷ (80, joined free-bytes partitions ++ joined size-bytes partitions)
     ∷ []
-    ) (zeros 2048)
+    ) (zeros sector-bytes)
 
 unfoldable pub integrity-bytes : Stamp → (recorded : List ℕ) → Integrity → List Partition → List ℕ
 integrity-bytes stamp recorded state partitions = sealed 9 stamp (integrity-body recorded state partitions)

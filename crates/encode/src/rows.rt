@@ -4,6 +4,7 @@ ghost use Rattle.encode.specs.Written.{map-bytes, pair-bytes, free-bytes, size
 use bytes::fields::put_bytes;
 use bytes::fields::put_u32;
 use bytes::rows::RowFormat;
+use descriptor::kinds::BLOCK_BYTES;
 use descriptor::kinds::FreePair;
 use descriptor::kinds::Partition;
 
@@ -35,7 +36,7 @@ pub(crate) impl RowFormat for PairFormat as PairRows {
     ghost fits = { λ f. f .first < 2 ^ 32 };
 
     fn put_row(area: &mut [u8], at: usize, item: &FreePair) -> usize {
-        put_u32(area, at, item.count.wrapping_mul(2048));
+        put_u32(area, at, item.count.wrapping_mul(BLOCK_BYTES));
         put_u32(area, at.saturating_add(4), item.first);
         at.saturating_add(8)
     }

@@ -9,6 +9,12 @@ use bytes::fields::put_u32;
 use bytes::tag::sum_of;
 use descriptor::kinds::Sector;
 
+// The version of every descriptor.
+const VERSION: u16 = 3;
+
+// How many bytes after the tag a CRC covers.
+const COVERED: u16 = 496;
+
 // What a tag says besides its descriptor's kind: the serial number that its set of descriptors bears, and the sector
 // where it stands.
 #[derive(Clone, Copy)]
@@ -30,10 +36,10 @@ fn tag_of(kind: u16, stamp: Stamp, crc: u16) -> [u8; 16]
 {
     let mut tag = [0u8; 16];
     put_u16(&mut tag, 0, kind);
-    put_u16(&mut tag, 2, 3);
+    put_u16(&mut tag, 2, VERSION);
     put_u16(&mut tag, 6, stamp.serial);
     put_u16(&mut tag, 8, crc);
-    put_u16(&mut tag, 10, 496);
+    put_u16(&mut tag, 10, COVERED);
     put_u32(&mut tag, 12, stamp.location);
     tag[4] = sum_of(&tag);
     tag

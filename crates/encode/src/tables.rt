@@ -18,6 +18,7 @@ use crate::seal::seal;
 use bytes::fields::put_bytes;
 use bytes::fields::put_u32;
 use bytes::rows::put_rows;
+use descriptor::kinds::BLOCK_BYTES;
 use descriptor::kinds::Extent;
 use descriptor::kinds::FreePair;
 use descriptor::kinds::Integrity;
@@ -46,7 +47,7 @@ pub fn logical_volume(
     let mut sector = blank();
     put_u32(&mut sector, 16, sequence);
     put_bytes(&mut sector, 84, identifier);
-    put_u32(&mut sector, 212, 2048);
+    put_u32(&mut sector, 212, BLOCK_BYTES);
     put_u32(&mut sector, 264, 6 * maps);
     put_u32(&mut sector, 268, maps);
     put_u32(&mut sector, 432, integrity.length);

@@ -1,6 +1,7 @@
 // Findings in words, as the tool prints them.
 use bytes::fields::byte_at;
 use bytes::fields::u16_at;
+use descriptor::kinds::BLOCK_BYTES;
 use descriptor::kinds::Descriptor;
 use descriptor::kinds::Extent;
 use descriptor::kinds::Integrity;
@@ -157,7 +158,7 @@ pub impl fmt::Display for Free<'_> as FreeDisplay {
         write!(f, "free extents: {rows}")?;
         for row in 0..rows {
             if let Some(extent) = extent_row(self.0, row) {
-                let count = extent.length / 2048;
+                let count = extent.length / BLOCK_BYTES;
                 let first = extent.location;
                 write!(f, ", {count} sectors from {first}")?;
             }
