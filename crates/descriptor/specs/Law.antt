@@ -21,22 +21,23 @@ use Rattle.descriptor.specs.Limits.{sector-bytes, most-covered, most-partition
 use Rattle.descriptor.specs.Kinds.{Fields}
 use Rattle.descriptor.specs.Decode.{primary-in, anchor-in, implementation-use-in, partition-in, logical-volume-in, unallocated-space-in, terminating-in, integrity-in}
 
--- check 1
+-- check 1: byte 4 is the sum of the tag's other bytes, byte 5 is 0, and the version is 3
 pub record TagRight (bs : List ℕ) : Type 0 where
   pub sum : byte-at bs 4 ≡ tag-sum (take 16 bs)
   pub reserved : byte-at bs 5 ≡ 0
   pub version : u16-at bs 2 ≡ 3
 
--- check 2
+-- check 2: the tag names the sector's own number
 abbrev pub LocationRight : List ℕ → ℕ → Type 0
 LocationRight bs number = u32-at bs 12 ≡ number
 
--- check 3
+-- check 3: at most the bytes after the tag are covered, and their CRC is the one recorded
 pub record CrcRight (bs : List ℕ) : Type 0 where
   pub covered : u16-at bs 10 ≤ most-covered
   pub equal : u16-at bs 8 ≡ crc (part bs 16 (u16-at bs 10))
 
--- check 4, the limits of three kinds
+-- check 4, the limits of three kinds: blocks of 2,048 bytes, at most 8 maps of 6 bytes each; at most 16 extents of whole
+-- sectors; open (0) or closed (1), and at most 8 partitions
 pub record LogicalVolumeRight (bs : List ℕ) : Type 0 where
   pub block-size : u32-at bs 212 ≡ sector-bytes
   pub maps : u32-at bs 268 ≤ most-partitions
@@ -62,10 +63,12 @@ pub data Suits (bs : List ℕ) : Place → Fields → Type 0 where
   last-integrity-suits : u16-at bs 0 ≡ 8 → Suits bs IntegrityExtent (terminating-in bs)
   integrity-suits : u16-at bs 0 ≡ 9 → IntegrityRight bs → Suits bs IntegrityExtent (integrity-in bs)
 
+-- one holds where the other does, and nowhere else
 abbrev pub Exactly : Type 0 → Type 0 → Type 0
 Exactly A B = (A → B) × (B → A)
 
--- what an answer r to reading a sector says of it
+-- what an answer r to reading a sector says of it: it is accepted exactly where all four checks hold, and a refusal is that
+-- of the first check that fails
 pub record Reading (bs : List ℕ) (number : ℕ) (place : Place) (r : Result Fields Refusal) : Type 0 where
   pub accepted : (d : Fields) → Exactly (r ≡ Ok d) (TagRight bs × LocationRight bs number × CrcRight bs × Suits bs place d)
   pub tag : Exactly (r ≡ Err refusal.Tag) (TagRight bs → ⊥)

@@ -11,12 +11,20 @@ use crate::checks::location_holds;
 use crate::checks::logical_volume_holds;
 use crate::checks::tag_holds;
 use crate::checks::unallocated_space_holds;
+use crate::kinds::ANCHOR;
 use crate::kinds::Descriptor;
 use crate::kinds::Extent;
+use crate::kinds::IMPLEMENTATION_USE;
+use crate::kinds::INTEGRITY;
 use crate::kinds::Integrity;
+use crate::kinds::LOGICAL_VOLUME;
+use crate::kinds::PARTITION;
+use crate::kinds::PRIMARY;
 use crate::kinds::Partition;
 use crate::kinds::Place;
 use crate::kinds::Sector;
+use crate::kinds::TERMINATING;
+use crate::kinds::UNALLOCATED_SPACE;
 use crate::refusal::Refusal;
 use bytes::fields::u16_at;
 use bytes::fields::u32_at;
@@ -146,12 +154,12 @@ fn in_sequence(sector: &Sector) -> Option<Descriptor<'_>>
     ensures { λ r. ⌜ found r ≡ sequence-kind (u16-at (now (sector .entry)) 0) (now (sector .entry)) ⌝ }
 {
     match u16_at(sector, 0) {
-        1 => Some(primary(sector)),
-        4 => Some(implementation_use(sector)),
-        5 => Some(partition(sector)),
-        6 => logical_volume(sector),
-        7 => unallocated_space(sector),
-        8 => Some(terminating(sector)),
+        PRIMARY => Some(primary(sector)),
+        IMPLEMENTATION_USE => Some(implementation_use(sector)),
+        PARTITION => Some(partition(sector)),
+        LOGICAL_VOLUME => logical_volume(sector),
+        UNALLOCATED_SPACE => unallocated_space(sector),
+        TERMINATING => Some(terminating(sector)),
         _ => None,
     }
 }
@@ -161,8 +169,8 @@ fn in_integrity_extent(sector: &Sector) -> Option<Descriptor<'_>>
     ensures { λ r. ⌜ found r ≡ integrity-kind (u16-at (now (sector .entry)) 0) (now (sector .entry)) ⌝ }
 {
     match u16_at(sector, 0) {
-        8 => Some(terminating(sector)),
-        9 => integrity(sector),
+        TERMINATING => Some(terminating(sector)),
+        INTEGRITY => integrity(sector),
         _ => None,
     }
 }
@@ -172,7 +180,7 @@ fn kind(sector: &Sector, place: Place) -> Option<Descriptor<'_>>
     ensures { λ r. ⌜ found r ≡ kind-in place (now (sector .entry)) ⌝ }
 {
     match place {
-        Place::Anchor if u16_at(sector, 0) == 2 => Some(anchor(sector)),
+        Place::Anchor if u16_at(sector, 0) == ANCHOR => Some(anchor(sector)),
         Place::Anchor => None,
         Place::Sequence => in_sequence(sector),
         Place::IntegrityExtent => in_integrity_extent(sector),

@@ -24,6 +24,23 @@ pub const MOST_PARTITIONS: u32 = 8;
 // The most extents of unallocated space that a volume lists here.
 pub const MOST_PAIRS: u32 = 16;
 
+// The number of each kind, as a tag has it.
+pub const PRIMARY: u16 = 1;
+
+pub const ANCHOR: u16 = 2;
+
+pub const IMPLEMENTATION_USE: u16 = 4;
+
+pub const PARTITION: u16 = 5;
+
+pub const LOGICAL_VOLUME: u16 = 6;
+
+pub const UNALLOCATED_SPACE: u16 = 7;
+
+pub const TERMINATING: u16 = 8;
+
+pub const INTEGRITY: u16 = 9;
+
 // Where a sector stands: at an anchor's place, in a volume descriptor sequence, or in the integrity extent.
 #[derive(Clone, Copy)]
 pub enum Place {

@@ -10,10 +10,14 @@ use crate::seal::seal;
 use bytes::fields::put_bytes;
 use bytes::fields::put_u16;
 use bytes::fields::put_u32;
+use descriptor::kinds::ANCHOR;
 use descriptor::kinds::Extent;
+use descriptor::kinds::PARTITION;
+use descriptor::kinds::PRIMARY;
 use descriptor::kinds::Partition;
 use descriptor::kinds::Sector;
 use descriptor::kinds::SetIdentifier;
+use descriptor::kinds::TERMINATING;
 use descriptor::kinds::Timestamp;
 use descriptor::kinds::VolumeIdentifier;
 
@@ -38,7 +42,7 @@ pub fn primary(
     put_bytes(&mut sector, 72, volume_set);
     put_bytes(&mut sector, 376, recorded);
     put_u16(&mut sector, 488, 1);
-    seal(&mut sector, 1, stamp);
+    seal(&mut sector, PRIMARY, stamp);
     sector
 }
 
@@ -52,7 +56,7 @@ pub fn anchor(stamp: Stamp, main: Extent, reserve: Extent) -> Sector
     put_u32(&mut sector, 20, main.location);
     put_u32(&mut sector, 24, reserve.length);
     put_u32(&mut sector, 28, reserve.location);
-    seal(&mut sector, 2, stamp);
+    seal(&mut sector, ANCHOR, stamp);
     sector
 }
 
@@ -68,7 +72,7 @@ pub fn partition(stamp: Stamp, sequence: u32, partition: Partition) -> Sector
     put_u32(&mut sector, 184, partition.access);
     put_u32(&mut sector, 188, partition.first);
     put_u32(&mut sector, 192, partition.count);
-    seal(&mut sector, 5, stamp);
+    seal(&mut sector, PARTITION, stamp);
     sector
 }
 
@@ -78,6 +82,6 @@ pub fn terminating(stamp: Stamp) -> Sector
     ensures read_back { λ r. ⌜ ReadsAs r stamp Sequence (terminating-fields (stamp .serial)) ⌝ }
 {
     let mut sector = blank();
-    seal(&mut sector, 8, stamp);
+    seal(&mut sector, TERMINATING, stamp);
     sector
 }

@@ -21,13 +21,16 @@ use bytes::rows::put_rows;
 use descriptor::kinds::BLOCK_BYTES;
 use descriptor::kinds::Extent;
 use descriptor::kinds::FreePair;
+use descriptor::kinds::INTEGRITY;
 use descriptor::kinds::Integrity;
+use descriptor::kinds::LOGICAL_VOLUME;
 use descriptor::kinds::MOST_PAIRS;
 use descriptor::kinds::MOST_PARTITIONS;
 use descriptor::kinds::Partition;
 use descriptor::kinds::Sector;
 use descriptor::kinds::SetIdentifier;
 use descriptor::kinds::Timestamp;
+use descriptor::kinds::UNALLOCATED_SPACE;
 
 // The Logical Volume Descriptor, with a map of each partition.
 pub fn logical_volume(
@@ -53,7 +56,7 @@ pub fn logical_volume(
     put_u32(&mut sector, 432, integrity.length);
     put_u32(&mut sector, 436, integrity.location);
     put_rows::<MapRows>(&mut sector, 440, partitions);
-    seal(&mut sector, 6, stamp);
+    seal(&mut sector, LOGICAL_VOLUME, stamp);
     Ok(sector)
 }
 
@@ -76,7 +79,7 @@ pub fn unallocated_space(
     put_u32(&mut sector, 16, sequence);
     put_u32(&mut sector, 20, free.len() as u32);
     put_rows::<PairRows>(&mut sector, 24, free);
-    seal(&mut sector, 7, stamp);
+    seal(&mut sector, UNALLOCATED_SPACE, stamp);
     Ok(sector)
 }
 
@@ -109,6 +112,6 @@ pub fn integrity(
     put_u32(&mut sector, 72, partitions.len() as u32);
     let sizes_at = put_rows::<FreeRows>(&mut sector, 80, partitions);
     put_rows::<SizeRows>(&mut sector, sizes_at, partitions);
-    seal(&mut sector, 9, stamp);
+    seal(&mut sector, INTEGRITY, stamp);
     Ok(sector)
 }

@@ -1,10 +1,10 @@
 // An image file, sector by sector.
 ghost use Prim.Native.Nat.{_<_, _≤_, _^_};
 ghost use mathlib.Core.Path.{_≡_};
-ghost use Rattle.std.specs.Vec.{made};
+ghost use Rattle.std.specs.Vec.{made, refused};
 ghost use Rattle.inspection.specs.Counts.{noted, all-met};
 ghost use Rattle.inspection.specs.Findings.{examined, found-in};
-ghost use Rattle.image.specs.Reports.{told, Met};
+ghost use Rattle.image.specs.Reports.{told, Met, Cut};
 use crate::fault::Fault;
 use crate::fault::FaultFromIo;
 use descriptor::kinds::Sector;
@@ -70,7 +70,8 @@ pub fn fill<R: Read>(source: &mut R, sector: &mut Sector) -> io::Result<usize>
 // Goes through an image file, prints what is worth a line, and answers the counts: of one sector or more, each counted
 // once.
 pub fn inspect(rt: &LibcRuntime, path: &str) -> Result<Summary, Fault>
-    ensures { λ r. ⌜ made r (λ s. (0 < all-met s) × (all-met s < 2 ^ 32)) ⌝ }
+    ensures met { λ r. ⌜ made r (λ s. (0 < all-met s) × (all-met s < 2 ^ 32)) ⌝ }
+    ensures cut { λ r. ⌜ refused r Cut ⌝ }
 {
     let mut file = fs::open(rt, path)?;
     let mut sector = [0u8; 2048];
