@@ -11,7 +11,7 @@ use lib.ListN.{length, getD, set, take, drop}
 use Rattle.std.proofs.shelf.Lists.{getD-past, getD-drop, set-past, take-at, length-replicate}
 use Rattle.std.proofs.shelf.Bits.{shr-shr, field-of, mod-pow-add, mod-low, mod-below, pow-pos}
 use Rattle.std.proofs.shelf.Tests.{cases-lt}
-use Rattle.bytes.specs.Fields.{over, put, zeros, exactly, le16, le32, u16-at, u32-at}
+use Rattle.bytes.specs.Fields.{over, put, Puts, zeros, exactly, le16, le32, u16-at, u32-at}
 
 -- nothing put changes nothing
 pub put-none : (at : ℕ) (bs : List ℕ) → put at [] bs ≡ bs
@@ -176,3 +176,41 @@ le32-low v =
     let b2 : v % 2 ^ 32 / 65536 % 256 ≡ v / 65536 % 256 = ap (λ (m : ℕ). m % 256) (field-of v 16 16) ∙ low-bits (v / 65536) 8 8 in
     let b3 : v % 2 ^ 32 / 16777216 % 256 ≡ v / 16777216 % 256 = ap (λ (m : ℕ). m % 256) (field-of v 8 24) ∙ low-bits (v / 16777216) 0 8 in
     cc
+
+-- what is put, byte by byte
+over-inside : (xs bs : List ℕ) (k : ℕ) → k < length xs → k < length bs → getD (over xs bs) k 0 ≡ getD xs k 0
+unfolding over
+over-inside [] bs k h g = absurd (not-suc-le-zero h)
+over-inside (x ∷ xs) [] k h g = absurd (not-suc-le-zero g)
+over-inside (x ∷ xs) (b ∷ bs) zero h g = refl
+over-inside (x ∷ xs) (b ∷ bs) (suc k) h g = over-inside xs bs k (le-of-suc-le-suc h) (le-of-suc-le-suc g)
+
+over-behind : (xs bs : List ℕ) (k : ℕ) → length xs ≤ k → getD (over xs bs) k 0 ≡ getD bs k 0
+unfolding over
+over-behind [] bs k h = refl
+over-behind (x ∷ xs) [] k h = refl
+over-behind (x ∷ xs) (b ∷ bs) zero h = absurd (not-suc-le-zero h)
+over-behind (x ∷ xs) (b ∷ bs) (suc k) h = over-behind xs bs k (le-of-suc-le-suc h)
+
+put-inside : (at : ℕ) (xs bs : List ℕ) (k : ℕ) → k < length xs → at + k < length bs → getD (put at xs bs) (at + k) 0 ≡ getD xs k 0
+unfolding put over
+put-inside zero xs bs k h g = ap (λ (j : ℕ). getD (over xs bs) j 0) (zero-add k) ∙ over-inside xs bs k h (omega arith)
+put-inside (suc at) xs [] k h g = absurd (not-suc-le-zero g)
+put-inside (suc at) xs (b ∷ bs) k h g = ap (λ (j : ℕ). getD (b ∷ put at xs bs) j 0) (suc-add at k) ∙ put-inside at xs bs k h (omega (arith, suc-add at k))
+
+put-before : (at : ℕ) (xs bs : List ℕ) (k : ℕ) → k < at → getD (put at xs bs) k 0 ≡ getD bs k 0
+unfolding put over
+put-before zero xs bs k h = absurd (not-suc-le-zero h)
+put-before (suc at) xs [] k h = refl
+put-before (suc at) xs (b ∷ bs) zero h = refl
+put-before (suc at) xs (b ∷ bs) (suc k) h = put-before at xs bs k (le-of-suc-le-suc h)
+
+put-behind : (at : ℕ) (xs bs : List ℕ) (k : ℕ) → at + length xs ≤ k → getD (put at xs bs) k 0 ≡ getD bs k 0
+unfolding put over
+put-behind zero xs bs k h = over-behind xs bs k (omega arith)
+put-behind (suc at) xs [] k h = refl
+put-behind (suc at) xs (b ∷ bs) zero h = absurd (omega (arith, suc-add at (length xs)))
+put-behind (suc at) xs (b ∷ bs) (suc k) h = put-behind at xs bs k (omega (arith, suc-add at (length xs)))
+
+pub puts : (at : ℕ) (xs bs : List ℕ) → Puts at xs bs (put at xs bs)
+puts at xs bs = record { long = length-put at xs bs; inside = put-inside at xs bs; before = put-before at xs bs; behind = put-behind at xs bs }

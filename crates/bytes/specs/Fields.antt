@@ -1,8 +1,9 @@
 -- Runs of bytes as lists of numbers, and the little-endian fields in them.
 -- Past its end a run reads as 0, and what would be put past its end is left out, so that every offset has a meaning.
-use Prim.Native.Nat.{ℕ, zero, suc, _+_, _*_, _/_, _%_}
+use Prim.Native.Nat.{ℕ, zero, suc, _+_, _*_, _/_, _%_, _<_, _≤_}
 use mathlib.Core.List.{List, [], _∷_}
-use lib.ListN.{getD, take, drop, replicate}
+use lib.ListN.{length, getD, take, drop, replicate}
+use mathlib.Core.Path.{_≡_}
 
 -- the byte at an offset
 abbrev pub byte-at : List ℕ → ℕ → ℕ
@@ -53,3 +54,10 @@ zeros n = replicate n 0
 unfoldable pub exactly : ℕ → List ℕ → List ℕ
 exactly zero bs = []
 exactly (suc n) bs = byte-at bs 0 ∷ exactly n (drop 1 bs)
+
+-- what `put` does, byte by byte: the run stands at its offset as far as the area goes, and all else is as it was
+pub record Puts (at : ℕ) (run area after : List ℕ) : Type 0 where
+  pub long : length after ≡ length area
+  pub inside : (k : ℕ) → k < length run → at + k < length area → byte-at after (at + k) ≡ byte-at run k
+  pub before : (k : ℕ) → k < at → byte-at after k ≡ byte-at area k
+  pub behind : (k : ℕ) → at + length run ≤ k → byte-at after k ≡ byte-at area k

@@ -1,7 +1,7 @@
 // Little-endian fields read and written at an offset of a run of bytes.
 // Every offset is met: past the end a run reads as 0, and nothing is written there.
 ghost use mathlib.Core.Path.{_≡_};
-ghost use Rattle.bytes.specs.Fields.{byte-at, u16-at, u32-at, put, le16, le32};
+ghost use Rattle.bytes.specs.Fields.{byte-at, u16-at, u32-at, put, Puts, le16, le32};
 
 // The byte at an offset.
 pub fn byte_at(bytes: &[u8], at: usize) -> u8
@@ -28,8 +28,8 @@ pub fn u32_at(bytes: &[u8], at: usize) -> u32
     u32::from(low) + 65_536 * u32::from(high)
 }
 
-// Puts a run of bytes at an offset of an area.
-pub fn put_bytes(area: &mut [u8], at: usize, run: &[u8])
+// Byte after byte.
+fn copy_in(area: &mut [u8], at: usize, run: &[u8])
     ensures { λ _. ⌜ now (area .exit) ≡ put at (now (run .entry)) (now (area .entry)) ⌝ }
 {
     for (i, byte) in run.iter().enumerate() {
@@ -38,6 +38,14 @@ pub fn put_bytes(area: &mut [u8], at: usize, run: &[u8])
             area[place] = *byte;
         }
     }
+}
+
+// Puts a run of bytes at an offset of an area.
+pub fn put_bytes(area: &mut [u8], at: usize, run: &[u8])
+    ensures value { λ _. ⌜ now (area .exit) ≡ put at (now (run .entry)) (now (area .entry)) ⌝ }
+    ensures law { λ _. ⌜ Puts at (now (run .entry)) (now (area .entry)) (now (area .exit)) ⌝ }
+{
+    copy_in(area, at, run);
 }
 
 // Puts a number of 16 bits at an offset of an area.

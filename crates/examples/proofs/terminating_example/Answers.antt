@@ -4,4 +4,4 @@ use Rattle.examples.proofs.terminating_example.Needs as need
 
 pub returns : need.returns
 unfolding zeros
-returns c = record { value = c .put-bytes .ensures; settled = settled }
+returns c = record { value = c .put-bytes .ensures .value; settled = settled }

@@ -11,13 +11,13 @@ unfolding primary-bytes
 bytes c =
     c .seal .ensures
     ∙ ap (sealed 1 (c .args .stamp)) (also 488 (c .put-u16-5 .ensures) refl
-    (also 376 (c .put-bytes-3 .ensures) (whole _ (c .told-recorded))
-    (also 72 (c .put-bytes-2 .ensures) (whole _ (c .told-volume-set))
+    (also 376 (c .put-bytes-3 .ensures .value) (whole _ (c .told-recorded))
+    (also 72 (c .put-bytes-2 .ensures .value) (whole _ (c .told-volume-set))
     (also 62 (c .put-u16-4 .ensures) refl
     (also 60 (c .put-u16-3 .ensures) refl
     (also 58 (c .put-u16-2 .ensures) refl
     (also 56 (c .put-u16 .ensures) refl
-    (also 24 (c .put-bytes .ensures) (whole _ (c .told-volume))
+    (also 24 (c .put-bytes .ensures .value) (whole _ (c .told-volume))
     (also 16 (c .put-u32 .ensures) refl (c .blank-sector .ensures))))))))))
 
 pub returns : need.returns

@@ -5,4 +5,4 @@ use Rattle.encode.proofs.recognition.named.Needs as need
 
 pub returns : need.returns
 unfolding named-bytes
-returns c = also 6 (c .put-bytes-2 .ensures) refl (also 1 (c .put-bytes .ensures) refl (c .blank-sector .ensures))
+returns c = also 6 (c .put-bytes-2 .ensures .value) refl (also 1 (c .put-bytes .ensures .value) refl (c .blank-sector .ensures))

@@ -17,6 +17,6 @@ tagged kind stamp n bs long = put-front (tag kind stamp n) bs (omega arith)
 pub returns : need.returns
 unfolding sealed
 returns c =
-    c .put-bytes .ensures
+    c .put-bytes .ensures .value
     ∙ (ap (λ (l : List ℕ). put 0 l (c .args .sector .now)) (c .tag-of-tag .ensures ∙ ap (tag (c .args .kind) (c .args .stamp)) (c .crc-of-crc .ensures .value))
     ∙ tagged (c .args .kind) (c .args .stamp) (crc (part (c .args .sector .now) 16 496)) (c .args .sector .now) (c .told-sector))

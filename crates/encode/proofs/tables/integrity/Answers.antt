@@ -27,7 +27,7 @@ bytes c =
     (also 80 (c .put-rows-sizes-at .ensures .after) refl
     (also 72 (c .put-u32-2 .ensures) refl
     (also 28 (c .put-u32 .ensures) (ap le32 (c .integrity-type .ensures))
-    (also 16 (c .put-bytes .ensures) (whole _ (c .told-recorded)) (c .blank-sector .ensures)))))
+    (also 16 (c .put-bytes .ensures .value) (whole _ (c .told-recorded)) (c .blank-sector .ensures)))))
     ∙ saturated-put 80 (c .put-rows-sizes-at .result) (joined free-bytes ps) (joined size-bytes ps) _ (simp (length-put, length-zeros) (omega arith)) (c .put-rows-sizes-at .ensures .next)))
 
 pub returns : need.returns

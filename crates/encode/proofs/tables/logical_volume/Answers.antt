@@ -25,7 +25,7 @@ bytes c =
     (also 268 (c .put-u32-4 .ensures) refl
     (also 264 (c .put-u32-3 .ensures) refl
     (also 212 (c .put-u32-2 .ensures) refl
-    (also 84 (c .put-bytes .ensures) (whole _ (c .told-identifier))
+    (also 84 (c .put-bytes .ensures .value) (whole _ (c .told-identifier))
     (also 16 (c .put-u32 .ensures) refl (c .blank-sector .ensures)))))))))
 
 pub returns : need.returns

@@ -3,4 +3,4 @@ use Rattle.sample.proofs.volume.short_name.Needs as need
 
 pub returns : need.returns
 unfolding zeros
-returns c = c .put-bytes .ensures
+returns c = c .put-bytes .ensures .value
