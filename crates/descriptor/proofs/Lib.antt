@@ -2,4 +2,3 @@ pub mod Lengths
 pub mod Decoding
 pub mod Conditions
 pub mod Reading
-pub mod Recognising

@@ -4,8 +4,6 @@ use Prim.Native.Nat.{ℕ, _+_, _*_, _%_, _<_, _≤_}
 use mathlib.Core.Path.{_≡_}
 use mathlib.Core.List.{List}
 use lib.ListN.{take}
-use Rattle.std.specs.declared.option.Option.{Option}
-use Rattle.std.specs.declared.option.Option.the-variants.{Some}
 use Rattle.std.specs.declared.result.Result.{Result}
 use Rattle.std.specs.declared.result.Result.the-variants.{Ok, Err}
 use Rattle.bytes.specs.Fields.{byte-at, u16-at, u32-at, part}
@@ -13,8 +11,6 @@ use Rattle.bytes.specs.Crc.{crc}
 use Rattle.bytes.specs.Tag.{tag-sum}
 use Rattle.descriptor.specs.declared.kinds.Place.{Place}
 use Rattle.descriptor.specs.declared.kinds.Place.the-variants.{Anchor, Sequence, IntegrityExtent}
-use Rattle.descriptor.specs.declared.recognition.Structure.{Structure}
-use Rattle.descriptor.specs.Recognition.{code-of}
 use Rattle.descriptor.specs.declared.refusal.Refusal.{Refusal}
 use Rattle.descriptor.specs.declared.refusal.Refusal.the-variants as refusal
 use Rattle.descriptor.specs.Limits.{sector-bytes, most-covered, most-partitions, most-pairs}
@@ -75,8 +71,3 @@ pub record Reading (bs : List ℕ) (number : ℕ) (place : Place) (r : Result Fi
   pub location : Exactly (r ≡ Err refusal.Location) (TagRight bs × (LocationRight bs number → ⊥))
   pub crc : Exactly (r ≡ Err refusal.Crc) (TagRight bs × LocationRight bs number × (CrcRight bs → ⊥))
   pub kind : Exactly (r ≡ Err refusal.Kind) (TagRight bs × LocationRight bs number × CrcRight bs × ((d : Fields) → Suits bs place d → ⊥))
-
--- what an answer r to recognising a sector says of it: a structure is named exactly where byte 0 is 0, byte 6 is 1 and
--- bytes 1 to 5 are its identifier
-abbrev pub Recognition : List ℕ → Option Structure → Type 0
-Recognition bs r = (s : Structure) → Exactly (r ≡ Some s) ((byte-at bs 0 ≡ 0) × (byte-at bs 6 ≡ 1) × (part bs 1 5 ≡ code-of s))

@@ -4,5 +4,3 @@ pub mod Refusals
 pub mod Checks
 pub mod Decode
 pub mod Law
-pub mod Tables
-pub mod Recognition

@@ -2,7 +2,5 @@
 pub mod checks;
 pub mod decode;
 pub mod kinds;
-pub mod recognition;
 pub mod refusal;
 pub mod serial;
-pub mod tables;

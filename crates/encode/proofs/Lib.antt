@@ -2,4 +2,3 @@ pub mod Chain
 pub mod Passes
 pub mod RoundTrip
 pub mod RoundTripTables
-pub mod Recognised

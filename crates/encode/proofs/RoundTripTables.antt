@@ -19,11 +19,10 @@ use Rattle.bytes.specs.Fields.{put, over, zeros, exactly, u16-at, u32-at, part}
 use Rattle.bytes.specs.Rows.{whole-rows}
 use Rattle.bytes.proofs.Runs.{u16-back, u32-back, exactly-whole, over-front, take-over, u32-drop, length-zeros}
 use Rattle.bytes.proofs.Scans.{every-decides}
-use Rattle.bytes.proofs.Tables.{length-joined, row-stands, table-back}
+use Rattle.bytes.proofs.Tables.{length-joined, row-stands}
 use Rattle.descriptor.specs.declared.kinds.Extent.{Extent}
 use Rattle.descriptor.specs.declared.kinds.FreePair.{FreePair}
 use Rattle.descriptor.specs.declared.kinds.Partition.{Partition}
-use Rattle.descriptor.specs.declared.kinds.PartitionMap.{PartitionMap}
 use Rattle.descriptor.specs.declared.kinds.Integrity.{Integrity}
 use Rattle.descriptor.specs.declared.kinds.Integrity.the-variants.{Open, Closed}
 use Rattle.descriptor.specs.declared.kinds.Place.the-variants.{Sequence, IntegrityExtent}
@@ -31,24 +30,14 @@ use Rattle.descriptor.specs.Kinds.{Fields, LogicalVolumeFields, UnallocatedSpac
 use Rattle.descriptor.specs.Checks.{logical-volume-fits, unallocated-space-fits, integrity-fits, whole-lengths}
 use Rattle.descriptor.specs.Decode.{kind-in, if-so, logical-volume-in, unallocated-space-in, integrity-in, state-of}
 use Rattle.descriptor.proofs.Lengths.{whole-decides}
-use Rattle.descriptor.specs.Tables.{map-of, extent-of, size-of}
 use Rattle.encode.specs.declared.seal.Stamp.{Stamp}
 use Rattle.encode.specs.Limits.{short, all-short}
 use Rattle.encode.specs.Sealed.{sealed, tag}
-use Rattle.encode.specs.Written.{map-bytes, pair-bytes, size-bytes, free-bytes, type-of, logical-volume-bytes, unallocated-space-bytes, integrity-bytes}
-use Rattle.encode.specs.ReadBack.{ReadsAs, logical-volume-fields, unallocated-space-fields, integrity-fields, MapsBack, ExtentsBack, SizesBack, map-to, extent-to}
+use Rattle.tables.specs.Rows.{map-bytes, pair-bytes, size-bytes, free-bytes}
+use Rattle.encode.specs.Written.{type-of, logical-volume-bytes, unallocated-space-bytes, integrity-bytes}
+use Rattle.encode.specs.ReadBack.{ReadsAs, logical-volume-fields, unallocated-space-fields, integrity-fields}
 use Rattle.encode.proofs.Passes.{passes}
 use Rattle.encode.proofs.RoundTrip.{StampFits, ExtentFits, again16, again32, again-extent, extent-again}
-
--- the rows of each table
-pub maps-back : (ps : List Partition) → All (λ p. p .number < 2 ^ 16) ps → MapsBack ps
-maps-back ps all = table-back map-bytes 6 (λ _. refl) map-of map-to (λ p. p .number < 2 ^ 16) agree (omega arith) ps all
-  where
-    agree : (p : Partition) → p .number < 2 ^ 16 → map-of (map-bytes p) ≡ map-to p
-    agree p h = let e = u16-back (p .number) h in cc
-
-pub sizes-back : (ps : List Partition) → All (λ p. p .count < 2 ^ 32) ps → SizesBack ps
-sizes-back ps all = table-back size-bytes 4 (λ _. refl) size-of (λ p. p .count) (λ p. p .count < 2 ^ 32) (λ p h. u32-back (p .count) h) (omega arith) ps all
 
 -- the logical volume
 module _ (stamp : Stamp) (q : ℕ) (id : List ℕ) (ps : List Partition) (e : Extent) where
@@ -106,22 +95,6 @@ module _ (stamp : Stamp) (q : ℕ) (id : List ℕ) (ps : List Partition) (e : Ex
 -- unallocated space
 pub short-decides : (free : List FreePair) → Decides (all-short free) (All (λ f. f .count ≤ 524287) free)
 short-decides free = every-decides short (λ f. f .count ≤ 524287) (λ f. (leb-true (f .count) 524287, le-leb (f .count) 524287)) free
-
-abbrev Short : FreePair → Type 0
-Short f = (f .count ≤ 524287) × (f .first < 2 ^ 32)
-
-pub all-both : (free : List FreePair) → All (λ f. f .count ≤ 524287) free → All (λ f. f .first < 2 ^ 32) free → All Short free
-all-both [] a b = tt
-all-both (f ∷ free) a b = ((a .0, b .0), all-both free (a .1) (b .1))
-
-pub extents-back : (free : List FreePair) → All Short free → ExtentsBack free
-extents-back free all = table-back pair-bytes 8 (λ _. refl) extent-of extent-to Short agree (omega arith) free all
-  where
-    agree : (f : FreePair) → Short f → extent-of (pair-bytes f) ≡ extent-to f
-    agree f h =
-        let a = u32-back (f .count * 2048) (omega arith) in
-        let b = u32-back (f .first) (h .1) in
-        cc
 
 module _ (stamp : Stamp) (q : ℕ) (free : List FreePair) where
   space-kind :

@@ -2,4 +2,3 @@ pub mod Sealed
 pub mod Written
 pub mod ReadBack
 pub mod Limits
-pub mod Recognition

@@ -10,6 +10,7 @@ use Rattle.descriptor.specs.declared.kinds.FreePair.{FreePair}
 use Rattle.descriptor.specs.declared.kinds.Integrity.{Integrity}
 use Rattle.descriptor.specs.declared.kinds.Integrity.the-variants.{Open, Closed}
 use Rattle.descriptor.specs.declared.kinds.Partition.{Partition}
+use Rattle.tables.specs.Rows.{map-bytes, pair-bytes, free-bytes, size-bytes}
 use Rattle.encode.specs.declared.seal.Stamp.{Stamp}
 use Rattle.encode.specs.Sealed.{sealed}
 
@@ -57,10 +58,6 @@ partition-body sequence partition =
 unfoldable pub partition-bytes : Stamp → (sequence : ℕ) → Partition → List ℕ
 partition-bytes stamp sequence partition = sealed 5 stamp (partition-body sequence partition)
 
--- a partition's map: type 1, length 6, volume 1, its number
-abbrev pub map-bytes : Partition → List ℕ
-map-bytes partition = 1 ∷ 6 ∷ (le16 1 ++ le16 (partition .number))
-
 -- Logical Volume Descriptor: sequence number, identifier, block size, table length, map count, integrity extent, maps
 abbrev pub logical-volume-body : (sequence : ℕ) (identifier : List ℕ) → List Partition → (integrity : Extent) → List ℕ
 logical-volume-body sequence identifier partitions integrity =
@@ -79,10 +76,6 @@ logical-volume-body sequence identifier partitions integrity =
 unfoldable pub logical-volume-bytes : Stamp → (sequence : ℕ) (identifier : List ℕ) → List Partition → (integrity : Extent) → List ℕ
 logical-volume-bytes stamp sequence identifier partitions integrity = sealed 6 stamp (logical-volume-body sequence identifier partitions integrity)
 
--- a free pair as an extent: its length in bytes, and its first sector
-abbrev pub pair-bytes : FreePair → List ℕ
-pair-bytes pair = le32 (pair .count * sector-bytes) ++ le32 (pair .first)
-
 -- Unallocated Space Descriptor: sequence number, count of extents, extents
 abbrev pub unallocated-space-body : (sequence : ℕ) → List FreePair → List ℕ
 unallocated-space-body sequence free = laid ((16, le32 sequence) ∷ (20, le32 (length free)) ∷ (24, joined pair-bytes free) ∷ []) (zeros sector-bytes)
@@ -98,13 +91,6 @@ terminating-bytes stamp = sealed 8 stamp (zeros sector-bytes)
 abbrev pub type-of : Integrity → ℕ
 type-of Open = 0
 type-of Closed = 1
-
--- a partition's free space, which is not stated, and its size in blocks
-abbrev pub free-bytes : Partition → List ℕ
-free-bytes partition = le32 4294967295
-
-abbrev pub size-bytes : Partition → List ℕ
-size-bytes partition = le32 (partition .count)
 
 -- Logical Volume Integrity Descriptor: recording date, type, count of partitions, free space table, size table
 abbrev pub integrity-body : (recorded : List ℕ) → Integrity → List Partition → List ℕ

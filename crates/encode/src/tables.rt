@@ -4,14 +4,11 @@ ghost use lib.ListN.{length};
 ghost use Rattle.std.specs.Vec.{made};
 ghost use Rattle.descriptor.specs.declared.kinds.Place.the-variants.{Sequence, IntegrityExtent};
 ghost use Rattle.encode.specs.Limits.{within-partitions, within-pairs};
-ghost use Rattle.encode.specs.ReadBack.{ReadsAs, logical-volume-fields, unallocated-space-fields, integrity-fields, MapsBack, ExtentsBack, SizesBack};
+ghost use Rattle.tables.specs.Back.{MapsBack, ExtentsBack, SizesBack};
+ghost use Rattle.encode.specs.ReadBack.{ReadsAs, logical-volume-fields, unallocated-space-fields, integrity-fields};
 ghost use Rattle.encode.specs.Written.{logical-volume-bytes, unallocated-space-bytes, integrity-bytes, type-of};
 use crate::limits::OffLimits;
 use crate::limits::lengths_fit;
-use crate::rows::FreeRows;
-use crate::rows::MapRows;
-use crate::rows::PairRows;
-use crate::rows::SizeRows;
 use crate::seal::Stamp;
 use crate::seal::blank;
 use crate::seal::seal;
@@ -31,6 +28,10 @@ use descriptor::kinds::Sector;
 use descriptor::kinds::SetIdentifier;
 use descriptor::kinds::Timestamp;
 use descriptor::kinds::UNALLOCATED_SPACE;
+use tables::rows::FreeRows;
+use tables::rows::MapRows;
+use tables::rows::PairRows;
+use tables::rows::SizeRows;
 
 // The Logical Volume Descriptor, with a map of each partition.
 pub fn logical_volume(

@@ -13,12 +13,12 @@ use Rattle.std.specs.declared.result.Result.the-variants.{Ok, Err}
 use Rattle.std.proofs.shelf.Tests.{cases-bool, cond-true, cond-false}
 use Rattle.descriptor.specs.declared.kinds.Place.{Place}
 use Rattle.descriptor.specs.declared.kinds.Place.the-variants.{Anchor, Sequence, IntegrityExtent}
-use Rattle.descriptor.specs.declared.recognition.Structure.{Structure}
+use Rattle.recognition.specs.declared.structure.Structure.{Structure}
 use Rattle.descriptor.specs.declared.refusal.Refusal.{Refusal}
 use Rattle.descriptor.specs.Checks.{sum-stands}
 use Rattle.descriptor.specs.Decode.{decoded}
 use Rattle.descriptor.specs.Kinds.{Fields}
-use Rattle.descriptor.specs.Recognition.{structure-in}
+use Rattle.recognition.specs.Structure.{structure-in}
 use Rattle.descriptor.proofs.Decoding.{refusals-agree}
 use Rattle.inspection.specs.Findings.{Found, descriptor, structure, refused, blank, other, tag-blank, no-descriptor, at-last, next-place, first-place, examined, Examined}
 

@@ -12,12 +12,12 @@ use Rattle.std.specs.declared.result.Result.the-variants.{Ok, Err}
 use Rattle.bytes.specs.Every.{every}
 use Rattle.descriptor.specs.declared.kinds.Place.{Place}
 use Rattle.descriptor.specs.declared.kinds.Place.the-variants.{Anchor, Sequence, IntegrityExtent}
-use Rattle.descriptor.specs.declared.recognition.Structure.{Structure}
+use Rattle.recognition.specs.declared.structure.Structure.{Structure}
 use Rattle.descriptor.specs.declared.refusal.Refusal.{Refusal}
 use Rattle.descriptor.specs.Checks.{sum-stands}
 use Rattle.descriptor.specs.Decode.{decoded}
 use Rattle.descriptor.specs.Kinds.{Fields, fields-of}
-use Rattle.descriptor.specs.Recognition.{structure-in}
+use Rattle.recognition.specs.Structure.{structure-in}
 use Rattle.inspection.specs.declared.finding.Finding.{Finding}
 use Rattle.inspection.specs.declared.finding.Finding.the-variants as case
 

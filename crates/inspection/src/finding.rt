@@ -1,15 +1,15 @@
 // What is found in a sector whose place is not known.
 ghost use mathlib.Core.Path.{_≡_};
 ghost use Rattle.inspection.specs.Findings.{tag-blank, no-descriptor, found-in, examined, Examined};
-ghost use Rattle.descriptor.specs.Recognition.{structure-in};
+ghost use Rattle.recognition.specs.Structure.{structure-in};
 use descriptor::checks::sum_holds;
 use descriptor::decode::decode;
 use descriptor::kinds::Descriptor;
 use descriptor::kinds::Place;
 use descriptor::kinds::Sector;
-use descriptor::recognition::Structure;
-use descriptor::recognition::recognise;
 use descriptor::refusal::Refusal;
+use recognition::structure::Structure;
+use recognition::structure::recognise;
 
 // What a sector is.
 #[derive(Clone, Copy)]

@@ -6,9 +6,6 @@ use descriptor::kinds::FreePair;
 use descriptor::kinds::Integrity;
 use descriptor::kinds::Partition;
 use descriptor::kinds::Place;
-use descriptor::tables::extent_row;
-use descriptor::tables::map_row;
-use descriptor::tables::size_row;
 use encode::limits::OffLimits;
 use encode::limits::OffLimitsDebug;
 use encode::limits::OffLimitsPartialEq;
@@ -17,6 +14,9 @@ use encode::tables::integrity;
 use encode::tables::logical_volume;
 use encode::tables::unallocated_space;
 use std::test::*;
+use tables::read::extent_row;
+use tables::read::map_row;
+use tables::read::size_row;
 
 const STAMP: Stamp = Stamp {
     serial: 0xFFFF,

@@ -6,14 +6,14 @@ use descriptor::kinds::Descriptor;
 use descriptor::kinds::Extent;
 use descriptor::kinds::Integrity;
 use descriptor::kinds::Partition;
-use descriptor::recognition::Structure;
 use descriptor::refusal::Refusal;
 use descriptor::serial::serial_of;
-use descriptor::tables::extent_row;
-use descriptor::tables::map_row;
 use inspection::finding::Finding;
 use inspection::summary::Summary;
+use recognition::structure::Structure;
 use std::fmt;
+use tables::read::extent_row;
+use tables::read::map_row;
 
 // An identifier: its printable ASCII characters up to the last byte that is not zero, any other byte as a dot.
 #[derive(Clone, Copy)]

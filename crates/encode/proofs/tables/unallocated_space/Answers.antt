@@ -12,7 +12,8 @@ use Rattle.encode.specs.Limits.{all-short}
 use Rattle.encode.specs.Sealed.{sealed}
 use Rattle.encode.specs.Written.{unallocated-space-bytes}
 use Rattle.encode.proofs.Chain.{also, written}
-use Rattle.encode.proofs.RoundTripTables.{unallocated-space-back, extents-back, short-decides, all-both}
+use Rattle.encode.proofs.RoundTripTables.{unallocated-space-back, short-decides}
+use Rattle.tables.proofs.RowsBack.{extents-back, all-both}
 use Rattle.encode.proofs.tables.unallocated_space.Needs as need
 
 bytes : (c : need.After-seal) → c .seal .last .sector ≡ unallocated-space-bytes (c .args .stamp) (c .args .sequence) (c .args .free .now)

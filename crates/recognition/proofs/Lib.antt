@@ -1,0 +1,2 @@
+pub mod Recognising
+pub mod Recognised

@@ -1,0 +1,3 @@
+pub mod Structure
+pub mod Law
+pub mod Written
