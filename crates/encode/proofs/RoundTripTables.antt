@@ -246,7 +246,7 @@ module _ (stamp : Stamp) (d : List ℕ) (state : Integrity) (ps : List Partition
       ∙ drop-at (joined free-bytes ps) (joined size-bytes ps ++ drop (length tables) (zeros 1968)) (4 * n) (omega arith))))
       ∙ take-at (joined size-bytes ps) (drop (length tables) (zeros 1968)) (4 * n) (omega arith)
 
-  integrity-same : StampFits stamp → length d ≡ 12 → length ps ≤ 8 → integrity-read ≡ integrity-fields stamp d state ps (length ps)
+  integrity-same : StampFits stamp → length d ≡ 12 → length ps ≤ 8 → integrity-read ≡ integrity-fields stamp d state ps
   integrity-same fits hd few =
       let es = u16-back (stamp .serial) (fits .serial) in
       let ed = exactly-whole d 12 hd in
@@ -257,7 +257,7 @@ module _ (stamp : Stamp) (d : List ℕ) (state : Integrity) (ps : List Partition
 
   pub integrity-back :
       StampFits stamp → length d ≡ 12 → length ps ≤ 8 →
-      ReadsAs (integrity-bytes stamp d state ps) stamp IntegrityExtent (integrity-fields stamp d state ps (length ps))
+      ReadsAs (integrity-bytes stamp d state ps) stamp IntegrityExtent (integrity-fields stamp d state ps)
   unfolding integrity-bytes
   integrity-back fits hd few =
       passes 9 stamp _ IntegrityExtent _ (fits .location)

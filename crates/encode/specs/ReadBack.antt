@@ -2,6 +2,7 @@
 use Prim.Native.Nat.{ℕ}
 use mathlib.Core.List.{List}
 use mathlib.Core.Path.{_≡_}
+use lib.ListN.{length}
 use Rattle.std.specs.Joined.{joined}
 use Rattle.std.specs.declared.result.Result.{Result}
 use Rattle.std.specs.declared.result.Result.the-variants.{Ok}
@@ -45,13 +46,13 @@ logical-volume-fields stamp sequence identifier partitions extent =
 abbrev pub unallocated-space-fields : Stamp → (sequence : ℕ) → List FreePair → Fields
 unallocated-space-fields stamp sequence free = unallocated-space (record { serial = stamp .serial; sequence = sequence; extents = joined pair-bytes free })
 
-abbrev pub integrity-fields : Stamp → (recorded : List ℕ) → Integrity → List Partition → (count : ℕ) → Fields
-integrity-fields stamp recorded state partitions count =
+abbrev pub integrity-fields : Stamp → (recorded : List ℕ) → Integrity → List Partition → Fields
+integrity-fields stamp recorded state partitions =
     integrity (record {
       serial = stamp .serial;
       recorded = recorded;
       state = state;
       next = record { length = 0; location = 0 };
-      partitions = count;
+      partitions = length partitions;
       sizes = joined size-bytes partitions;
     })

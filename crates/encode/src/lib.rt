@@ -1,4 +1,4 @@
-// The sectors that are written: each descriptor under its tag, and the recognition descriptors.
+// The descriptors that are written, each under its tag.
 pub mod descriptors;
 pub mod limits;
 pub mod seal;

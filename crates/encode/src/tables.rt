@@ -1,6 +1,5 @@
 // The descriptors with a table that are written.
 ghost use mathlib.Core.Path.{_≡_};
-ghost use lib.ListN.{length};
 ghost use Rattle.std.specs.Vec.{made};
 ghost use Rattle.descriptor.specs.declared.kinds.Place.the-variants.{Sequence, IntegrityExtent};
 ghost use Rattle.encode.specs.Limits.{within-partitions, within-pairs};
@@ -102,7 +101,7 @@ pub fn integrity(
     partitions: &[Partition],
 ) -> Result<Sector, OffLimits>
     ensures bytes { λ r. ⌜ r ≡ within-partitions (now (partitions .entry)) (integrity-bytes stamp (now (recorded .entry)) state (now (partitions .entry))) ⌝ }
-    ensures read_back { λ r. ⌜ made r (λ s. ReadsAs s stamp IntegrityExtent (integrity-fields stamp (now (recorded .entry)) state (now (partitions .entry)) (length (now (partitions .entry)))) × SizesBack (now (partitions .entry))) ⌝ }
+    ensures read_back { λ r. ⌜ made r (λ s. ReadsAs s stamp IntegrityExtent (integrity-fields stamp (now (recorded .entry)) state (now (partitions .entry))) × SizesBack (now (partitions .entry))) ⌝ }
 {
     if partitions.len() > MOST_PARTITIONS as usize {
         return Err(OffLimits::Partitions);

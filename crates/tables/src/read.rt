@@ -1,4 +1,4 @@
-// The rows of a descriptor's tables.
+// The rows of descriptors' tables, read.
 ghost use mathlib.Core.Path.{_≡_};
 ghost use mathlib.Core.List.{map};
 ghost use Rattle.std.specs.Finite.{nth};

@@ -1,4 +1,4 @@
-// The rows of the tables that descriptors have.
+// The rows of descriptors' tables, as they are written.
 ghost use Prim.Native.Nat.{_^_, _<_};
 ghost use Rattle.tables.specs.Rows.{map-bytes, pair-bytes, free-bytes, size-bytes};
 use bytes::fields::put_bytes;
