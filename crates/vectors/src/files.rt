@@ -2,9 +2,12 @@
 use examples::terminating_example;
 use image::fault::Fault;
 use image::fault::FaultDebug;
+use image::inspect::fill;
 use image::inspect::inspect;
 use inspection::summary::Summary;
 use std::fs;
+use std::io;
+use std::io::Read;
 use std::test::*;
 
 // Why a file was not inspected.
@@ -46,4 +49,33 @@ fn whole_file(rt: LibcRuntime) -> Result<(), Fail> {
     check_eq(summary.descriptors, 1)?;
     check_eq(summary.blank, 39)?;
     check_eq(summary.refused, 0)
+}
+
+// A source that gives one byte at a time, and then ends.
+#[derive(Drop)]
+struct Trickle {
+    left: u32,
+}
+
+impl Read for Trickle as TrickleRead {
+    fn read(&mut self, buf: &mut [u8]) -> io::Result<usize> {
+        if self.left == 0 || buf.len() == 0 {
+            return Ok(0);
+        }
+        self.left -= 1;
+        buf[0] = 7;
+        Ok(1)
+    }
+}
+
+#[test]
+fn short_reads() -> Result<(), Fail> {
+    let mut source = Trickle { left: 3000 };
+    let mut sector = [0u8; 2048];
+    check_eq(fill(&mut source, &mut sector)?, 2048)?;
+    check_eq(sector[0], 7)?;
+    check_eq(sector[2047], 7)?;
+    check_eq(fill(&mut source, &mut sector)?, 952)?;
+    check_eq(fill(&mut source, &mut sector)?, 0)?;
+    check_eq(source.left, 0)
 }
