@@ -1,4 +1,6 @@
 // The command line tool: `cardtool` demonstrates, `cardtool inspect FILE` inspects an image file.
+#![tactic(auto)]
+
 use fault::Fault;
 use tool::command::run;
 

@@ -1,4 +1,6 @@
 // The demonstration: the descriptors of a small volume are written and inspected, and so are damaged copies of them.
+#![tactic(auto)]
+
 ghost use Rattle.std.specs.Prelude.{◌≡◌, ℕ, IfOk, OnOk};
 ghost use Rattle.inspection.specs.Counts.{all_met};
 ghost use Rattle.image.specs.Reports.{Met};

@@ -3,7 +3,7 @@
 use Rattle.std.proofs.Common.{◌≡◌, ℕ, ◌+◌, ◌*◌, ◌%◌, ◌<◌, Bool, true, false, eqb, List, Decides, sym, refl, ap, ◌∙◌, ⊎_elim, add-one}
 use Rattle.std.proofs.lemmas.Bool.Decides.{Decides-below_and, Decides-eqb}
 use Rattle.std.proofs.lemmas.Bool.{cases_Bool, and_from, eq-eqb}
-use Rattle.bytes.specs.Fields.{u32_at}
+use Rattle.octets.specs.Fields.{u32_at}
 use Rattle.descriptor.specs.Checks.{whole_lengths}
 
 pub whole_decides : (bs : List ℕ) (n : ℕ) → Decides (whole_lengths bs n) ((k : ℕ) → k < n → u32_at bs (24 + 8 * k) % 2048 ≡ 0)

@@ -1,8 +1,8 @@
 -- The four checks of a sector, as tests: the tag, its location, the CRC, and whether the kind suits the place.
 use Rattle.std.specs.Prelude.{ℕ, zero, suc, ◌+◌, ◌*◌, ◌%◌, Bool, true, ◌&&◌, List, take, ◌==◌, nat_le}
-use Rattle.bytes.specs.Fields.{byte_at, u16_at, u32_at, part}
-use Rattle.bytes.specs.Crc.{crc}
-use Rattle.bytes.specs.Tag.{tag_sum}
+use Rattle.octets.specs.Fields.{byte_at, u16_at, u32_at, part}
+use Rattle.octets.specs.Crc.{crc}
+use Rattle.octets.specs.Tag.{tag_sum}
 use Rattle.descriptor.specs.Limits.{sector_bytes, most_covered, most_partitions, most_pairs}
 
 -- byte 4 is the sum of the tag's other bytes

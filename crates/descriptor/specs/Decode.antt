@@ -1,7 +1,7 @@
 -- A sector as a descriptor: which kind it is in its place, and what it holds.
 use Rattle.std.specs.Prelude.{ℕ, ◌+◌, ◌*◌, Bool, cond, List, Some, None, Ok, Err, Option, Result, ◌==◌}
 use Rattle.std.specs.Option.{ok_or}
-use Rattle.bytes.specs.Fields.{u16_at, u32_at, part}
+use Rattle.octets.specs.Fields.{u16_at, u32_at, part}
 use Rattle.descriptor.specs.declared.kinds.Extent.{Extent}
 use Rattle.descriptor.specs.declared.kinds.Partition.{Partition}
 use Rattle.descriptor.specs.declared.kinds.Integrity.{Integrity}

@@ -1,9 +1,9 @@
 -- When a sector is a descriptor, in the subject's own words: the conditions of each check by name,
 -- and that an answer is given exactly where all hold, else the refusal of the first check that fails.
 use Rattle.std.specs.Prelude.{◌≡◌, ℕ, ◌+◌, ◌*◌, ◌%◌, ◌<◌, ◌≤◌, List, take, Ok, Err, Result}
-use Rattle.bytes.specs.Fields.{byte_at, u16_at, u32_at, part}
-use Rattle.bytes.specs.Crc.{crc}
-use Rattle.bytes.specs.Tag.{tag_sum}
+use Rattle.octets.specs.Fields.{byte_at, u16_at, u32_at, part}
+use Rattle.octets.specs.Crc.{crc}
+use Rattle.octets.specs.Tag.{tag_sum}
 use Rattle.descriptor.specs.declared.kinds.Place.{Place}
 use Rattle.descriptor.specs.declared.kinds.Place.TheVariants.{Anchor, Sequence, IntegrityExtent}
 use Rattle.descriptor.specs.declared.refusal.Refusal.{Refusal}

@@ -3,9 +3,9 @@ ghost use Rattle.std.specs.Prelude.{◌≡◌, ◌≤◌};
 ghost use Rattle.descriptor.specs.Checks.{sum_stands, tag_stands, location_stands, crc_stands, logical_volume_fits, whole_lengths, unallocated_space_fits, integrity_fits};
 
 use crate::kinds::{BLOCK_BYTES, MOST_PAIRS, MOST_PARTITIONS, Sector};
-use bytes::crc::crc_of;
-use bytes::fields::{byte_at, u16_at, u32_at};
-use bytes::tag::sum_of;
+use octets::crc::crc_of;
+use octets::fields::{byte_at, u16_at, u32_at};
+use octets::tag::sum_of;
 
 // The bytes of a tag.
 const TAG_BYTES: usize = 16;

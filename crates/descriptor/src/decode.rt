@@ -1,6 +1,6 @@
 // A sector read as a descriptor.
 ghost use Rattle.std.specs.Prelude.{◌≡◌};
-ghost use Rattle.bytes.specs.Fields.{u16_at};
+ghost use Rattle.octets.specs.Fields.{u16_at};
 ghost use Rattle.descriptor.specs.Law.{Reading};
 ghost use Rattle.descriptor.specs.Kinds.{fields_of};
 ghost use Rattle.descriptor.specs.Decode.{extent_at, primary_in, anchor_in, implementation_use_in, partition_in, logical_volume_in, unallocated_space_in, terminating_in, integrity_in, if_so, found, sequence_kind, integrity_kind, kind_in, decoded, answer};
@@ -15,7 +15,7 @@ use crate::kinds::{
     PARTITION, PRIMARY, Partition, Place, Sector, TERMINATING, UNALLOCATED_SPACE,
 };
 use crate::refusal::Refusal;
-use bytes::fields::{u16_at, u32_at};
+use octets::fields::{u16_at, u32_at};
 
 // The extent at an offset.
 pub(crate) fn extent(bytes: &[u8], at: usize) -> Extent

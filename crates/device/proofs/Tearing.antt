@@ -3,7 +3,7 @@
 use Rattle.std.proofs.Common.{◌≡◌, ℕ, Bool, true, false, not, ◌||◌, eqb, List, is_ok, Ok, Err, Decides, Result, refl, ⊎_elim}
 use Rattle.std.proofs.lemmas.Bool.{not-true, not_from_false, eqb-false, ne_eqb, or_cases, or_parts, or_left, or_right, or_from}
 use Rattle.std.proofs.lemmas.Bool.Decides.{not_from_Decides}
-use Rattle.bytes.specs.Fields.{u16_at}
+use Rattle.octets.specs.Fields.{u16_at}
 use Rattle.descriptor.specs.declared.refusal.Refusal.{Refusal}
 use Rattle.descriptor.specs.Kinds.{Fields}
 use Rattle.descriptor.specs.Checks.{sum_stands, crc_stands}

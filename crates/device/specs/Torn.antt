@@ -1,7 +1,7 @@
 -- Torn contents: what a sector may hold after a power cut besides the contents of its list.
 use Rattle.std.specs.Prelude.{◌≡◌, ℕ, Bool, true, false, not, ◌||◌, List, take, is_ok, ◌==◌, ◌≢◌}
-use Rattle.bytes.specs.Fields.{byte_at, u16_at}
-use Rattle.bytes.specs.Tag.{tag_sum}
+use Rattle.octets.specs.Fields.{byte_at, u16_at}
+use Rattle.octets.specs.Tag.{tag_sum}
 use Rattle.descriptor.specs.Checks.{sum_stands, crc_stands}
 use Rattle.descriptor.specs.declared.kinds.Place.{Place}
 use Rattle.descriptor.specs.Decode.{decoded}

@@ -3,7 +3,7 @@ ghost use Rattle.std.specs.Prelude.{◌≡◌, Decides};
 ghost use Rattle.device.specs.Content.{holding};
 ghost use Rattle.device.specs.Torn.{Torn, torn, NoTornPasses};
 
-use bytes::fields::u16_at;
+use octets::fields::u16_at;
 use descriptor::checks::{crc_holds, sum_holds};
 use descriptor::kinds::Sector;
 

@@ -1,4 +1,6 @@
 // Tests of devices and layers, as tables: their edges, the order in which writes land, pairs, piles, torn sectors.
+#![tactic(auto)]
+
 #[cfg(test)]
 mod edges;
 #[cfg(test)]

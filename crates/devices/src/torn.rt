@@ -1,6 +1,6 @@
 // Torn sectors.
-use bytes::fields::put_u16;
-use bytes::tag::sum_of;
+use octets::fields::put_u16;
+use octets::tag::sum_of;
 use descriptor::kinds::Sector;
 use device::torn::is_torn;
 use examples::terminating_example;

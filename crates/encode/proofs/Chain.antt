@@ -1,8 +1,8 @@
 -- Fields put one after the other.
 -- Assumes nothing.
 use Rattle.std.proofs.Common.{◌≡◌, ℕ, List, length, sym, ap, ◌∙◌}
-use Rattle.bytes.specs.Fields.{put, exactly}
-use Rattle.bytes.proofs.Runs.{exactly_whole}
+use Rattle.octets.specs.Fields.{put, exactly}
+use Rattle.octets.proofs.Runs.{exactly_whole}
 use Rattle.descriptor.specs.declared.kinds.Place.{Place}
 use Rattle.descriptor.specs.Kinds.{Fields}
 use Rattle.descriptor.specs.Decode.{decoded}

@@ -3,11 +3,11 @@
 use Rattle.std.proofs.Common.{◌≡◌, ℕ, ◌^◌, ◌<◌, true, List, Some, Ok, Option, refl, ap, ◌∙◌}
 use Rattle.std.specs.Option.{ok_or}
 use Rattle.std.proofs.lemmas.Bool.{eq-eqb, and_from}
-use Rattle.bytes.specs.Fields.{part}
-use Rattle.bytes.specs.Crc.{crc}
-use Rattle.bytes.specs.Tag.{tag_sum}
-use Rattle.bytes.proofs.Runs.{u16_back, u32_back}
-use Rattle.bytes.proofs.Steps.{crc_fits}
+use Rattle.octets.specs.Fields.{part}
+use Rattle.octets.specs.Crc.{crc}
+use Rattle.octets.specs.Tag.{tag_sum}
+use Rattle.octets.proofs.Runs.{u16_back, u32_back}
+use Rattle.octets.proofs.Steps.{crc_fits}
 use Rattle.descriptor.specs.declared.kinds.Place.{Place}
 use Rattle.descriptor.specs.declared.refusal.Refusal.TheVariants as refusal
 use Rattle.descriptor.specs.Kinds.{Fields}

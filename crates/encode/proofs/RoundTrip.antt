@@ -1,8 +1,8 @@
 -- What is written is read back: the descriptors with no table.
 -- Assumes nothing.
 use Rattle.std.proofs.Common.{◌≡◌, ℕ, ◌+◌, ◌*◌, ◌/◌, ◌%◌, ◌^◌, ◌<◌, List, length, Some, refl, ◌∙◌}
-use Rattle.bytes.specs.Fields.{put, over, zeros, exactly}
-use Rattle.bytes.proofs.Runs.{u16_back, u32_back, exactly_whole}
+use Rattle.octets.specs.Fields.{put, over, zeros, exactly}
+use Rattle.octets.proofs.Runs.{u16_back, u32_back, exactly_whole}
 use Rattle.descriptor.specs.declared.kinds.Extent.{Extent}
 use Rattle.descriptor.specs.declared.kinds.Partition.{Partition}
 use Rattle.descriptor.specs.declared.kinds.Place.TheVariants.{Anchor, Sequence}

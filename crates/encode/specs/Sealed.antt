@@ -1,8 +1,8 @@
 -- A descriptor under its tag: version 3, CRC of the 496 bytes after the tag, serial and location as given.
 use Rattle.std.specs.Prelude.{ℕ, List, ◌∷◌, ◌++◌, drop}
-use Rattle.bytes.specs.Fields.{part, le16, le32}
-use Rattle.bytes.specs.Crc.{crc}
-use Rattle.bytes.specs.Tag.{tag_sum}
+use Rattle.octets.specs.Fields.{part, le16, le32}
+use Rattle.octets.specs.Crc.{crc}
+use Rattle.octets.specs.Tag.{tag_sum}
 use Rattle.encode.specs.declared.seal.Stamp.{Stamp}
 
 -- the tag's sixteen bytes, with a given byte 4

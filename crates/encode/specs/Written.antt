@@ -1,6 +1,6 @@
 -- The bytes of each sector with no table that is written. A body is its fields, each an offset with its bytes, laid into 2,048 zeros.
 use Rattle.std.specs.Prelude.{ℕ, List, [], ◌∷◌}
-use Rattle.bytes.specs.Fields.{laid, zeros, exactly, le16, le32}
+use Rattle.octets.specs.Fields.{laid, zeros, exactly, le16, le32}
 use Rattle.descriptor.specs.Limits.{sector_bytes}
 use Rattle.descriptor.specs.declared.kinds.Extent.{Extent}
 use Rattle.descriptor.specs.declared.kinds.Partition.{Partition}

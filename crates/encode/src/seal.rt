@@ -1,11 +1,11 @@
 // A descriptor's tag.
 ghost use Rattle.std.specs.Prelude.{◌≡◌};
-ghost use Rattle.bytes.specs.Fields.{zeros};
+ghost use Rattle.octets.specs.Fields.{zeros};
 ghost use Rattle.encode.specs.Sealed.{tag, sealed};
 
-use bytes::crc::crc_of;
-use bytes::fields::{put_bytes, put_u16, put_u32};
-use bytes::tag::sum_of;
+use octets::crc::crc_of;
+use octets::fields::{put_bytes, put_u16, put_u32};
+use octets::tag::sum_of;
 use descriptor::kinds::Sector;
 
 // The version of every descriptor.

@@ -5,10 +5,10 @@ use Rattle.std.specs.List.{flat_map, AllByRecursion as All}
 use Rattle.std.proofs.ByRecursion.{All-get_or}
 use Rattle.std.proofs.lemmas.List.{length-append, append_assoc, drop-drop, drop-append-le, drop_at, take_at}
 use Rattle.std.proofs.lemmas.Bool.{eq-eqb, le-leb, leb-true, and_from, cond-true}
-use Rattle.bytes.specs.Fields.{put, over, zeros, exactly, u32_at, part}
-use Rattle.bytes.proofs.Runs.{u16_back, u32_back, exactly_whole, over_front, take-over, u32_drop, length-zeros}
-use Rattle.bytes.proofs.Scans.{every_decides}
-use Rattle.bytes.proofs.Tables.{length-joined, row_stands}
+use Rattle.octets.specs.Fields.{put, over, zeros, exactly, u32_at, part}
+use Rattle.octets.proofs.Runs.{u16_back, u32_back, exactly_whole, over_front, take-over, u32_drop, length-zeros}
+use Rattle.octets.proofs.Scans.{every_decides}
+use Rattle.octets.proofs.Tables.{length-joined, row_stands}
 use Rattle.descriptor.specs.declared.kinds.Extent.{Extent}
 use Rattle.descriptor.specs.declared.kinds.FreePair.{FreePair}
 use Rattle.descriptor.specs.declared.kinds.Partition.{Partition}

@@ -1,6 +1,6 @@
 -- The limits of what is written, and the number of their refusal.
 use Rattle.std.specs.Prelude.{ℕ, Bool, cond, List, length, Ok, Err, Result, nat_le}
-use Rattle.bytes.specs.Every.{every}
+use Rattle.octets.specs.Every.{every}
 use Rattle.descriptor.specs.Limits.{most_partitions, most_pairs}
 use Rattle.descriptor.specs.declared.kinds.FreePair.{FreePair}
 use Rattle.descriptor.specs.declared.kinds.Partition.{Partition}

@@ -1,7 +1,7 @@
 -- The bytes of each sector with a table that is written. A body is its fields, each an offset with its bytes, laid into 2,048 zeros.
 use Rattle.std.specs.Prelude.{ℕ, ◌*◌, List, [], ◌∷◌, ◌++◌, length}
 use Rattle.std.specs.List.{flat_map}
-use Rattle.bytes.specs.Fields.{laid, zeros, exactly, le32}
+use Rattle.octets.specs.Fields.{laid, zeros, exactly, le32}
 use Rattle.descriptor.specs.Limits.{sector_bytes}
 use Rattle.descriptor.specs.declared.kinds.Extent.{Extent}
 use Rattle.descriptor.specs.declared.kinds.FreePair.{FreePair}

@@ -1,9 +1,9 @@
 -- The settled examples, computed.
 -- Assumes nothing.
 use Rattle.std.proofs.Common.{refl}
-use Rattle.bytes.specs.Crc.{crc, absorbed, shifts, shifted}
-use Rattle.bytes.specs.Fields.{put, over, zeros}
-use Rattle.bytes.specs.Tag.{tag_sum}
+use Rattle.octets.specs.Crc.{crc, absorbed, shifts, shifted}
+use Rattle.octets.specs.Fields.{put, over, zeros}
+use Rattle.octets.specs.Tag.{tag_sum}
 use Rattle.descriptor.specs.Decode.{decoded}
 use Rattle.examples.specs.Settled.{Settled}
 

@@ -1,7 +1,7 @@
 -- The settled examples: what the definitions answer for inputs whose answers are given beforehand.
 use Rattle.std.specs.Prelude.{◌≡◌, ℕ, List, [], ◌∷◌, Ok, Err, Result}
-use Rattle.bytes.specs.Crc.{crc}
-use Rattle.bytes.specs.Fields.{put, zeros}
+use Rattle.octets.specs.Crc.{crc}
+use Rattle.octets.specs.Fields.{put, zeros}
 use Rattle.descriptor.specs.declared.kinds.Place.TheVariants.{Sequence}
 use Rattle.descriptor.specs.declared.refusal.Refusal.{Refusal}
 use Rattle.descriptor.specs.Decode.{decoded}

@@ -1,8 +1,10 @@
 // The settled examples, as theorems about the definitions that the contracts use.
+#![tactic(auto)]
+
 ghost use Rattle.std.specs.Prelude.{◌≡◌};
 ghost use Rattle.examples.specs.Settled.{example_sector, Settled};
 
-use bytes::fields::put_bytes;
+use octets::fields::put_bytes;
 use descriptor::kinds::Sector;
 
 // The tag of the example.

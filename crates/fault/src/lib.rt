@@ -1,4 +1,6 @@
 // Why the tool could not do what it was asked.
+#![tactic(auto)]
+
 ghost use Rattle.std.specs.Prelude.{◌≡◌};
 ghost use Rattle.fault.specs.declared.Fault.TheVariants.{Io, Memory, OffLimits as Limit, Device, Pair};
 

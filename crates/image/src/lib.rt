@@ -1,2 +1,4 @@
 // An image file gone through sector by sector.
+#![tactic(auto)]
+
 pub mod inspect;

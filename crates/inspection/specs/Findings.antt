@@ -1,6 +1,6 @@
 -- What is found in a sector whose place is not known.
 use Rattle.std.specs.Prelude.{◌≡◌, ℕ, Bool, true, false, cond, List, take, Some, None, Ok, Err, Option, Result, ◌≢◌, nat_eq}
-use Rattle.bytes.specs.Every.{every}
+use Rattle.octets.specs.Every.{every}
 use Rattle.descriptor.specs.declared.kinds.Place.{Place}
 use Rattle.descriptor.specs.declared.kinds.Place.TheVariants.{Anchor, Sequence, IntegrityExtent}
 use Rattle.recognition.specs.declared.structure.Structure.{Structure}

@@ -1,6 +1,6 @@
 -- Sectors that lie one behind the other in a run of bytes.
 use Rattle.std.specs.Prelude.{ℕ, ◌*◌, ◌/◌, min, Bool, true, false, cond, List, length, nat_lt}
-use Rattle.bytes.specs.Fields.{part, put}
+use Rattle.octets.specs.Fields.{part, put}
 use Rattle.descriptor.specs.Limits.{sector_bytes}
 use Rattle.device.specs.Content.{Content, unreadable, holding, only}
 use Rattle.device.specs.Faults.{Origins}

@@ -3,7 +3,7 @@ ghost use Rattle.std.specs.Prelude.{◌≡◌};
 ghost use Rattle.media.specs.Landed.{count_of, getting, putting};
 ghost use Rattle.media.specs.Stores.{bytes_of};
 
-use bytes::fields::put_bytes;
+use octets::fields::put_bytes;
 use descriptor::kinds::{SECTOR_BYTES, Sector};
 
 // Sectors in the caller's bytes; what follows the last whole sector is kept and never touched.

@@ -1,4 +1,6 @@
 // Pairs of offset and length: runs of sectors of the device below a layer.
+#![tactic(auto)]
+
 pub mod calls;
 pub mod fault;
 pub mod pair;

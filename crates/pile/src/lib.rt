@@ -1,2 +1,4 @@
 // A pile of layers over a queue, shown at work.
+#![tactic(auto)]
+
 pub mod show;

@@ -2,7 +2,7 @@
 -- Assumes nothing.
 use Rattle.std.proofs.Common.{◌≡◌, ℕ, zero, suc, Bool, true, false, cond, eqb, List, [], ◌∷◌, take, sym, refl, subst}
 use Rattle.std.specs.List.{AllByRecursion as All}
-use Rattle.bytes.specs.Every.{every}
+use Rattle.octets.specs.Every.{every}
 use Rattle.device.specs.Content.{Content, holding, listed, only}
 use Rattle.device.specs.Calls.{Sublist, keep}
 use Rattle.device.specs.Cuts.{Among, Left, listed_before, Cut}

@@ -1,6 +1,6 @@
 -- What the lists of a queue are, and what a power cut may leave of it, in the subject's own words.
 use Rattle.std.specs.Prelude.{◌≡◌, ℕ, true, List, [], ◌∷◌, take}
-use Rattle.bytes.specs.Every.{every}
+use Rattle.octets.specs.Every.{every}
 use Rattle.device.specs.Content.{listed}
 use Rattle.device.specs.Cuts.{Cut}
 use Rattle.media.specs.Landed.{count_of, landed}

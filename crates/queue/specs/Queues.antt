@@ -9,8 +9,8 @@ use Rattle.std.proofs.lemmas.List.{append-nil, append_assoc}
 use Rattle.std.proofs.lemmas.List.Sums.{fold_push}
 use Rattle.std.proofs.lemmas.Bool.{cases_eq, eq-eqb, ne_eqb, lt-ltb, cond-true, cond_both}
 use Rattle.std.proofs.lemmas.Bool.Decides.{Decides-and, Decides-ltb, Decides-eqb}
-use Rattle.bytes.specs.Every.{every}
-use Rattle.bytes.proofs.Scans.{every_decides}
+use Rattle.octets.specs.Every.{every}
+use Rattle.octets.proofs.Scans.{every_decides}
 use Rattle.descriptor.specs.Limits.{sector_bytes}
 use Rattle.device.specs.Content.{Content, Contents, Whole, holding, listed, only, followed}
 use Rattle.device.specs.Model.{Model, Sound}

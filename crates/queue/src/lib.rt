@@ -1,4 +1,6 @@
 // The queue device: sectors in bytes of the caller, with writes that wait in slots of the caller.
+#![tactic(auto)]
+
 mod accepting;
 mod landing;
 pub mod pending;

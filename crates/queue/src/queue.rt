@@ -1,6 +1,6 @@
 // A queue: sectors in bytes of the caller, and slots of the caller in which writes wait.
 ghost use Rattle.std.specs.Prelude.{◌≡◌, ◌^◌, ◌<◌, ◌≤◌, true, take, vec_len};
-ghost use Rattle.bytes.specs.Every.{every};
+ghost use Rattle.octets.specs.Every.{every};
 ghost use Rattle.media.specs.Landed.{count_of};
 ghost use Rattle.media.specs.Stores.{bytes_of};
 ghost use Rattle.queue.specs.Waiting.{well_formed};

@@ -1,7 +1,7 @@
 -- What is written is recognised, whichever identifier it names.
 -- Assumes nothing.
 use Rattle.std.proofs.Common.{◌≡◌, Some, Option, refl}
-use Rattle.bytes.specs.Fields.{put, over, zeros}
+use Rattle.octets.specs.Fields.{put, over, zeros}
 use Rattle.recognition.specs.declared.structure.Structure.{Structure}
 use Rattle.recognition.specs.declared.structure.Structure.TheVariants.{Bea01, Boot2, Nsr03, Tea01}
 use Rattle.recognition.specs.Structure.{structure_in}

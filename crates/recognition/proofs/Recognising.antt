@@ -2,7 +2,7 @@
 -- Assumes nothing.
 use Rattle.std.proofs.Common.{◌≡◌, ℕ, Bool, true, false, cond, ◌&&◌, eqb, List, [], ◌∷◌, Some, None, Decides, Option, sym, refl, ap, ◌∙◌, subst, ap₂, ⊎_elim, arith}
 use Rattle.std.proofs.lemmas.Bool.{and_from, and_parts, cond-true, eq-eqb, eqb-true}
-use Rattle.bytes.specs.Fields.{byte_at, part}
+use Rattle.octets.specs.Fields.{byte_at, part}
 use Rattle.recognition.specs.declared.structure.Structure.{Structure}
 use Rattle.recognition.specs.declared.structure.Structure.TheVariants.{Bea01, Boot2, Nsr03, Tea01}
 use Rattle.recognition.specs.Law.{Recognition}

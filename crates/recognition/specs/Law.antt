@@ -1,6 +1,6 @@
 -- When a sector is a volume structure descriptor, in the subject's own words.
 use Rattle.std.specs.Prelude.{◌≡◌, ℕ, List, Some, Option}
-use Rattle.bytes.specs.Fields.{byte_at, part}
+use Rattle.octets.specs.Fields.{byte_at, part}
 use Rattle.descriptor.specs.Law.{Exactly}
 use Rattle.recognition.specs.declared.structure.Structure.{Structure}
 use Rattle.recognition.specs.Structure.{code_of}

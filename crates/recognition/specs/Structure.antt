@@ -1,6 +1,6 @@
 -- A sector as a volume structure descriptor.
 use Rattle.std.specs.Prelude.{ℕ, Bool, true, false, cond, ◌&&◌, List, [], ◌∷◌, Some, None, codes, Option, ◌==◌}
-use Rattle.bytes.specs.Fields.{byte_at, part}
+use Rattle.octets.specs.Fields.{byte_at, part}
 use Rattle.recognition.specs.declared.structure.Structure.{Structure}
 use Rattle.recognition.specs.declared.structure.Structure.TheVariants.{Bea01, Boot2, Nsr03, Tea01}
 

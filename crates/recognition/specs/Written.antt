@@ -1,6 +1,6 @@
 -- The bytes of the volume structure descriptors that are written: type 0, an identifier, version 1, and zeros.
 use Rattle.std.specs.Prelude.{ℕ, List, [], ◌∷◌}
-use Rattle.bytes.specs.Fields.{laid, zeros}
+use Rattle.octets.specs.Fields.{laid, zeros}
 use Rattle.descriptor.specs.Limits.{sector_bytes}
 use Rattle.recognition.specs.declared.structure.Structure.{Structure}
 use Rattle.recognition.specs.Structure.{code_of}

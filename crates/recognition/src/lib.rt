@@ -1,3 +1,5 @@
 // Volume structure descriptors, of which the volume recognition sequence is made: read and written.
+#![tactic(auto)]
+
 pub mod structure;
 pub mod written;

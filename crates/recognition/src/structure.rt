@@ -3,7 +3,7 @@ ghost use Rattle.std.specs.Prelude.{◌≡◌};
 ghost use Rattle.recognition.specs.Law.{Recognition};
 ghost use Rattle.recognition.specs.Structure.{structure_in};
 
-use bytes::fields::byte_at;
+use octets::fields::byte_at;
 use descriptor::kinds::Sector;
 
 // The standard that a volume structure descriptor names.

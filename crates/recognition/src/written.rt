@@ -4,7 +4,7 @@ ghost use Rattle.recognition.specs.Structure.{structure_in};
 ghost use Rattle.recognition.specs.declared.structure.Structure.TheVariants.{Bea01, Nsr03, Tea01};
 ghost use Rattle.recognition.specs.Written.{structure_bytes, named_bytes};
 
-use bytes::fields::put_bytes;
+use octets::fields::put_bytes;
 use descriptor::kinds::Sector;
 
 // A volume structure descriptor: type 0, an identifier, version 1.

@@ -1,4 +1,6 @@
 // Refusals of devices, layers and pairs in words, with their numbers and where they arose.
+#![tactic(auto)]
+
 use device::fault::{DeviceFault, Layer, Reason};
 use pairs::fault::PairFault;
 use std::fmt;

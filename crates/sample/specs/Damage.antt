@@ -1,7 +1,7 @@
 -- Ways in which a sector comes to harm.
 use Rattle.std.specs.Prelude.{ℕ, ◌-◌, List, [], ◌∷◌, take, bit_xor, slice_index, slice_set}
-use Rattle.bytes.specs.Fields.{put, le16, le32}
-use Rattle.bytes.specs.Tag.{tag_sum}
+use Rattle.octets.specs.Fields.{put, le16, le32}
+use Rattle.octets.specs.Tag.{tag_sum}
 
 -- the lowest bit of a byte is turned
 abbrev pub bit_turned : ℕ → List ℕ → List ℕ

@@ -1,9 +1,9 @@
 // A small volume: its names, its partitions and its free space.
 ghost use Rattle.std.specs.Prelude.{◌≡◌, ℕ, [], ◌∷◌};
-ghost use Rattle.bytes.specs.Fields.{put, zeros};
+ghost use Rattle.octets.specs.Fields.{put, zeros};
 ghost use Rattle.sample.specs.Volume.{pottery, loom, free_space};
 
-use bytes::fields::put_bytes;
+use octets::fields::put_bytes;
 use descriptor::kinds::{Extent, FreePair, Partition, SetIdentifier, Timestamp, VolumeIdentifier};
 
 // The serial number that the sample's descriptors bear.

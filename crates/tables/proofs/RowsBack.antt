@@ -2,8 +2,8 @@
 -- Assumes nothing.
 use Rattle.std.proofs.Common.{◌≡◌, ℕ, ◌*◌, ◌^◌, ◌<◌, ◌≤◌, List, [], ◌∷◌, refl, arith}
 use Rattle.std.specs.List.{AllByRecursion as All}
-use Rattle.bytes.proofs.Runs.{u16_back, u32_back}
-use Rattle.bytes.proofs.Tables.{table-back}
+use Rattle.octets.proofs.Runs.{u16_back, u32_back}
+use Rattle.octets.proofs.Tables.{table-back}
 use Rattle.descriptor.specs.declared.kinds.Extent.{Extent}
 use Rattle.descriptor.specs.declared.kinds.FreePair.{FreePair}
 use Rattle.descriptor.specs.declared.kinds.Partition.{Partition}

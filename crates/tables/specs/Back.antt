@@ -1,7 +1,7 @@
 -- What the rows that are written are read back as.
 use Rattle.std.specs.Prelude.{◌≡◌, ℕ, ◌*◌, List, map}
 use Rattle.std.specs.List.{flat_map}
-use Rattle.bytes.specs.Rows.{whole_rows}
+use Rattle.octets.specs.Rows.{whole_rows}
 use Rattle.descriptor.specs.Limits.{sector_bytes}
 use Rattle.descriptor.specs.declared.kinds.Extent.{Extent}
 use Rattle.descriptor.specs.declared.kinds.FreePair.{FreePair}

@@ -1,6 +1,6 @@
 -- What a row of each table holds.
 use Rattle.std.specs.Prelude.{ℕ, List}
-use Rattle.bytes.specs.Fields.{byte_at, u16_at, u32_at}
+use Rattle.octets.specs.Fields.{byte_at, u16_at, u32_at}
 use Rattle.descriptor.specs.declared.kinds.Extent.{Extent}
 use Rattle.descriptor.specs.declared.kinds.PartitionMap.{PartitionMap}
 use Rattle.descriptor.specs.Decode.{extent_at}

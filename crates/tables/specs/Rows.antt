@@ -1,6 +1,6 @@
 -- The bytes of a row of each table.
 use Rattle.std.specs.Prelude.{ℕ, ◌*◌, List, ◌∷◌, ◌++◌}
-use Rattle.bytes.specs.Fields.{le16, le32}
+use Rattle.octets.specs.Fields.{le16, le32}
 use Rattle.descriptor.specs.Limits.{sector_bytes}
 use Rattle.descriptor.specs.declared.kinds.FreePair.{FreePair}
 use Rattle.descriptor.specs.declared.kinds.Partition.{Partition}

@@ -1,11 +1,11 @@
 // The rows of descriptors' tables, read.
 ghost use Rattle.std.specs.Prelude.{◌≡◌, map};
 ghost use Rattle.std.specs.List.{slice_get};
-ghost use Rattle.bytes.specs.Rows.{whole_rows};
+ghost use Rattle.octets.specs.Rows.{whole_rows};
 ghost use Rattle.tables.specs.Read.{map_of, extent_of, size_of};
 
-use bytes::fields::{byte_at, u16_at, u32_at};
-use bytes::rows::row_at;
+use octets::fields::{byte_at, u16_at, u32_at};
+use octets::rows::row_at;
 use descriptor::kinds::{Extent, PartitionMap};
 
 // The partition map in a row of a logical volume's map table.

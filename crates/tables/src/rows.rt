@@ -2,8 +2,8 @@
 ghost use Rattle.std.specs.Prelude.{◌^◌, ◌<◌};
 ghost use Rattle.tables.specs.Rows.{map_bytes, pair_bytes, free_bytes, size_bytes};
 
-use bytes::fields::{put_bytes, put_u32};
-use bytes::rows::RowFormat;
+use octets::fields::{put_bytes, put_u32};
+use octets::rows::RowFormat;
 use descriptor::kinds::{BLOCK_BYTES, FreePair, Partition};
 
 // A partition as its map: type 1, length 6, volume 1, its number.

@@ -1,2 +1,4 @@
 // What the command line tool does.
+#![tactic(auto)]
+
 pub mod command;

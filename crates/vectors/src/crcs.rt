@@ -1,6 +1,6 @@
 // CRCs that were worked out elsewhere.
-use bytes::crc::crc_of;
-use bytes::fields::{byte_at, u32_at};
+use octets::crc::crc_of;
+use octets::fields::{byte_at, u32_at};
 
 #[test]
 fn known_crcs(rt: HostRuntime) {

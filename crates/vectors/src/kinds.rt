@@ -1,5 +1,5 @@
 // The limits of the kinds that have some.
-use bytes::fields::{put_u16, put_u32};
+use octets::fields::{put_u16, put_u32};
 use descriptor::decode::decode;
 use descriptor::kinds::Place;
 use sample::damage::mend_sum;

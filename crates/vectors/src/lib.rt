@@ -1,4 +1,6 @@
 // Tests, as tables: CRCs, damaged tags, the limits of each kind, the limits of what is written, image files.
+#![tactic(auto)]
+
 #[cfg(test)]
 mod crcs;
 #[cfg(test)]

@@ -1,5 +1,5 @@
 // The example's tag, whole and damaged.
-use bytes::fields::put_u16;
+use octets::fields::put_u16;
 use descriptor::decode::decode;
 use descriptor::kinds::Place;
 use examples::terminating_example;

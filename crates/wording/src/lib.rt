@@ -1,5 +1,7 @@
 // Findings in words, as the tool prints them.
-use bytes::fields::{byte_at, u16_at};
+#![tactic(auto)]
+
+use octets::fields::{byte_at, u16_at};
 use descriptor::kinds::{BLOCK_BYTES, Descriptor, Extent, Integrity, Partition};
 use descriptor::refusal::Refusal;
 use descriptor::serial::serial_of;

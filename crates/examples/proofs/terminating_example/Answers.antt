@@ -1,4 +1,4 @@
-use Rattle.bytes.specs.Fields.{zeros}
+use Rattle.octets.specs.Fields.{zeros}
 use Rattle.examples.proofs.Computed.{settled}
 use Rattle.examples.proofs.terminating_example.Goals as goal
 

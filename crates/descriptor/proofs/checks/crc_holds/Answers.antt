@@ -2,8 +2,8 @@
 use Rattle.std.proofs.Common.{◌≡◌, ℕ, ◌-◌, ◌≤◌, Bool, true, ◌&&◌, eqb, leb, List, take, drop, sym, refl, ap, ◌∙◌, arith}
 use Rattle.std.proofs.lemmas.List.{take-take}
 use Rattle.std.proofs.lemmas.Bool.{le-leb}
-use Rattle.bytes.specs.Fields.{u16_at}
-use Rattle.bytes.specs.Crc.{crc}
+use Rattle.octets.specs.Fields.{u16_at}
+use Rattle.octets.specs.Crc.{crc}
 use Rattle.descriptor.specs.Checks.{crc_stands}
 use Rattle.descriptor.proofs.checks.crc_holds.Goals as goal
 

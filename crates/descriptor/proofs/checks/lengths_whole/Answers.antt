@@ -1,5 +1,5 @@
 use Rattle.std.proofs.Common.{◌≡◌, ℕ, ◌+◌, ◌*◌, ◌%◌, sym, ap, ◌∙◌, arith}
-use Rattle.bytes.specs.Fields.{u32_at}
+use Rattle.octets.specs.Fields.{u32_at}
 use Rattle.descriptor.proofs.Lengths.{not_whole, whole_more}
 use Rattle.descriptor.proofs.checks.lengths_whole.Goals as goal
 

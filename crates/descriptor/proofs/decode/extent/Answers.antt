@@ -1,6 +1,6 @@
 use Rattle.std.proofs.Common.{◌≡◌, ◌+◌, length, arith}
-use Rattle.bytes.specs.Fields.{u32_at}
-use Rattle.bytes.proofs.Runs.{saturated_at, u32_past}
+use Rattle.octets.specs.Fields.{u32_at}
+use Rattle.octets.proofs.Runs.{saturated_at, u32_past}
 use Rattle.descriptor.proofs.decode.extent.Goals as goal
 
 pub returns : goal.returns

@@ -1,7 +1,7 @@
 -- Each part of the answer is read at its place, and the table's length is the one that is recorded.
 use Rattle.std.proofs.Common.{◌≡◌, ℕ, ◌+◌, ◌-◌, true, List, take, drop, Some, Option, sym, ap, ◌∙◌, arith}
 use Rattle.std.proofs.lemmas.Bool.{cond-true}
-use Rattle.bytes.specs.Fields.{u16_at, u32_at}
+use Rattle.octets.specs.Fields.{u16_at, u32_at}
 use Rattle.descriptor.specs.declared.kinds.Extent.{Extent}
 use Rattle.descriptor.specs.Kinds.{Fields, LogicalVolumeFields, logical_volume}
 use Rattle.descriptor.specs.Checks.{logical_volume_fits}

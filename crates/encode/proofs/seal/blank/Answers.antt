@@ -1,5 +1,5 @@
 use Rattle.std.proofs.Common.{refl}
-use Rattle.bytes.specs.Fields.{zeros}
+use Rattle.octets.specs.Fields.{zeros}
 use Rattle.encode.proofs.seal.blank.Goals as goal
 
 pub returns : goal.returns

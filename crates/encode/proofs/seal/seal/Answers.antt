@@ -1,7 +1,7 @@
 use Rattle.std.proofs.Common.{◌≡◌, ℕ, List, ◌++◌, length, drop, ap, ◌∙◌, arith}
-use Rattle.bytes.specs.Fields.{put, part}
-use Rattle.bytes.specs.Crc.{crc}
-use Rattle.bytes.proofs.Runs.{put_front}
+use Rattle.octets.specs.Fields.{put, part}
+use Rattle.octets.specs.Crc.{crc}
+use Rattle.octets.proofs.Runs.{put_front}
 use Rattle.encode.specs.Sealed.{sealed, tag}
 use Rattle.encode.specs.declared.seal.Stamp.{Stamp}
 use Rattle.encode.proofs.seal.seal.Goals as goal

@@ -1,6 +1,6 @@
 use Rattle.std.proofs.Common.{◌≡◌, ℕ, List, [], ◌∷◌, set, replicate, refl, ap, ◌∙◌}
-use Rattle.bytes.specs.Fields.{put, over, le16, le32, laid}
-use Rattle.bytes.specs.Tag.{tag_sum}
+use Rattle.octets.specs.Fields.{put, over, le16, le32, laid}
+use Rattle.octets.specs.Tag.{tag_sum}
 use Rattle.encode.specs.declared.seal.Stamp.{Stamp}
 use Rattle.encode.specs.Sealed.{tag, tag_with}
 use Rattle.encode.proofs.Chain.{also}

@@ -1,5 +1,5 @@
 use Rattle.std.proofs.lemmas.Bool.{le-leb, lt-leb}
-use Rattle.bytes.proofs.Scans.{every_stops, every_goes, every_ends}
+use Rattle.octets.proofs.Scans.{every_stops, every_goes, every_ends}
 use Rattle.descriptor.specs.declared.kinds.FreePair.{FreePair}
 use Rattle.encode_tables.specs.Limits.{short}
 use Rattle.encode_tables.proofs.limits.lengths_fit.Goals as goal

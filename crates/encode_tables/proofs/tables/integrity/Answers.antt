@@ -1,8 +1,8 @@
 use Rattle.std.proofs.Common.{◌≡◌, ℕ, leb, List, length, Ok, Result, sym, refl, ap, ◌∙◌, arith}
 use Rattle.std.specs.List.{flat_map}
 use Rattle.std.proofs.lemmas.Bool.{cond-true, le-leb}
-use Rattle.bytes.specs.Fields.{put, le32}
-use Rattle.bytes.proofs.Runs.{saturated_put, length-put, length-zeros}
+use Rattle.octets.specs.Fields.{put, le32}
+use Rattle.octets.proofs.Runs.{saturated_put, length-put, length-zeros}
 use Rattle.encode_tables.specs.declared.limits.OffLimits.{OffLimits}
 use Rattle.encode.specs.Sealed.{sealed}
 use Rattle.encode_tables.specs.Written.{integrity_bytes}

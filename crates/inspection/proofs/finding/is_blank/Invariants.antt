@@ -1,5 +1,5 @@
 use Rattle.std.proofs.Common.{◌≡◌, eqb, drop}
-use Rattle.bytes.specs.Every.{every}
+use Rattle.octets.specs.Every.{every}
 use Rattle.inspection.proofs.finding.is_blank.Given as goal
 
 -- what is left of the tag gives the answer

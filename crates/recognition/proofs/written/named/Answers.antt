@@ -1,5 +1,5 @@
 use Rattle.std.proofs.Common.{◌≡◌, ℕ, List, [], ◌∷◌, ap, ◌∙◌}
-use Rattle.bytes.specs.Fields.{put, zeros}
+use Rattle.octets.specs.Fields.{put, zeros}
 use Rattle.recognition.specs.Written.{named_bytes}
 use Rattle.recognition.proofs.written.named.Goals as goal
 

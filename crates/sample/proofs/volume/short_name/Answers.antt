@@ -1,4 +1,4 @@
-use Rattle.bytes.specs.Fields.{zeros}
+use Rattle.octets.specs.Fields.{zeros}
 use Rattle.sample.proofs.volume.short_name.Goals as goal
 
 pub returns : goal.returns

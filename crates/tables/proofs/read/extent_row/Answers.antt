@@ -1,5 +1,5 @@
-use Rattle.bytes.specs.Rows.{whole_rows}
-use Rattle.bytes.proofs.Tables.{row_read, row_missing}
+use Rattle.octets.specs.Rows.{whole_rows}
+use Rattle.octets.proofs.Tables.{row_read, row_missing}
 use Rattle.tables.specs.Read.{extent_of}
 use Rattle.tables.proofs.read.extent_row.Goals as goal
 

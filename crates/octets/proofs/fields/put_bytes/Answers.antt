@@ -1,0 +1,10 @@
+use Rattle.std.proofs.Common.{sym, subst}
+use Rattle.octets.specs.Fields.{Puts}
+use Rattle.octets.proofs.Runs.{puts}
+use Rattle.octets.proofs.fields.put_bytes.Goals as goal
+
+pub returns : goal.returns
+returns c = record {
+  value = c.copy-in.ensures;
+  law = subst (Puts c.args.at c.args.run.now c.args.area.now) (sym c.copy-in.ensures) (puts c.args.at c.args.run.now c.args.area.now);
+}
