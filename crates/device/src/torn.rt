@@ -3,9 +3,9 @@ ghost use Rattle.std.specs.Prelude.{◌≡◌, Decides};
 ghost use Rattle.device.specs.Content.{holding};
 ghost use Rattle.device.specs.Torn.{Torn, torn, NoTornPasses};
 
-use octets::fields::u16_at;
 use descriptor::checks::{crc_holds, sum_holds};
 use descriptor::kinds::Sector;
+use octets::fields::u16_at;
 
 // The sum, the version and the CRC, in this order.
 fn some_check_fails(sector: &Sector) -> bool

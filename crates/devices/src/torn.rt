@@ -1,9 +1,9 @@
 // Torn sectors.
-use octets::fields::put_u16;
-use octets::tag::sum_of;
 use descriptor::kinds::Sector;
 use device::torn::is_torn;
 use examples::terminating_example;
+use octets::fields::put_u16;
+use octets::tag::sum_of;
 use sample::damage::turn_bit;
 
 // The Terminating Descriptor of the examples with a number of 16 bits put at an offset, and its sum made right again.

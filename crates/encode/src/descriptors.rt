@@ -6,11 +6,11 @@ ghost use Rattle.encode.specs.Written.{primary_bytes, anchor_bytes, partition_by
 ghost use Rattle.descriptor.specs.Kinds.{terminating as terminating-fields};
 
 use crate::seal::{Stamp, blank, seal};
-use octets::fields::{put_bytes, put_u16, put_u32};
 use descriptor::kinds::{
     ANCHOR, Extent, PARTITION, PRIMARY, Partition, Sector, SetIdentifier, TERMINATING, Timestamp,
     VolumeIdentifier,
 };
+use octets::fields::{put_bytes, put_u16, put_u32};
 
 // The Primary Volume Descriptor.
 pub fn primary(

@@ -3,10 +3,10 @@ ghost use Rattle.std.specs.Prelude.{◌≡◌};
 ghost use Rattle.octets.specs.Fields.{zeros};
 ghost use Rattle.encode.specs.Sealed.{tag, sealed};
 
+use descriptor::kinds::Sector;
 use octets::crc::crc_of;
 use octets::fields::{put_bytes, put_u16, put_u32};
 use octets::tag::sum_of;
-use descriptor::kinds::Sector;
 
 // The version of every descriptor.
 const VERSION: u16 = 3;

@@ -8,13 +8,13 @@ ghost use Rattle.encode_tables.specs.ReadBack.{logical_volume_fields, unallocate
 ghost use Rattle.encode_tables.specs.Written.{logical_volume_bytes, unallocated_space_bytes, integrity_bytes, type_of};
 
 use crate::limits::{OffLimits, lengths_fit};
-use octets::fields::{put_bytes, put_u32};
-use octets::rows::put_rows;
 use descriptor::kinds::{
     BLOCK_BYTES, Extent, FreePair, INTEGRITY, Integrity, LOGICAL_VOLUME, MOST_PAIRS,
     MOST_PARTITIONS, Partition, Sector, SetIdentifier, Timestamp, UNALLOCATED_SPACE,
 };
 use encode::seal::{Stamp, blank, seal};
+use octets::fields::{put_bytes, put_u32};
+use octets::rows::put_rows;
 
 // The Logical Volume Descriptor, with a map of each partition.
 pub fn logical_volume(

@@ -4,8 +4,8 @@
 ghost use Rattle.std.specs.Prelude.{◌≡◌};
 ghost use Rattle.examples.specs.Settled.{example_sector, Settled};
 
-use octets::fields::put_bytes;
 use descriptor::kinds::Sector;
+use octets::fields::put_bytes;
 
 // The tag of the example.
 const TAG: [u8; 16] = [

@@ -3,8 +3,8 @@ ghost use Rattle.std.specs.Prelude.{◌≡◌};
 ghost use Rattle.media.specs.Landed.{count_of, getting, putting};
 ghost use Rattle.media.specs.Stores.{bytes_of};
 
-use octets::fields::put_bytes;
 use descriptor::kinds::{SECTOR_BYTES, Sector};
+use octets::fields::put_bytes;
 
 // Sectors in the caller's bytes; what follows the last whole sector is kept and never touched.
 #[derive(Drop)]

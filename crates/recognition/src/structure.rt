@@ -3,8 +3,8 @@ ghost use Rattle.std.specs.Prelude.{◌≡◌};
 ghost use Rattle.recognition.specs.Law.{Recognition};
 ghost use Rattle.recognition.specs.Structure.{structure_in};
 
-use octets::fields::byte_at;
 use descriptor::kinds::Sector;
+use octets::fields::byte_at;
 
 // The standard that a volume structure descriptor names.
 #[derive(Clone, Copy)]

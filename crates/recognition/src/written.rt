@@ -4,8 +4,8 @@ ghost use Rattle.recognition.specs.Structure.{structure_in};
 ghost use Rattle.recognition.specs.declared.structure.Structure.TheVariants.{Bea01, Nsr03, Tea01};
 ghost use Rattle.recognition.specs.Written.{structure_bytes, named_bytes};
 
-use octets::fields::put_bytes;
 use descriptor::kinds::Sector;
+use octets::fields::put_bytes;
 
 // A volume structure descriptor: type 0, an identifier, version 1.
 fn named(identifier: &[u8; 5]) -> Sector

@@ -2,9 +2,9 @@
 ghost use Rattle.std.specs.Prelude.{◌≡◌};
 ghost use Rattle.sample.specs.Damage.{bit_turned, sum_mended, aged, small_blocks};
 
+use descriptor::kinds::Sector;
 use octets::fields::{put_u16, put_u32};
 use octets::tag::sum_of;
-use descriptor::kinds::Sector;
 
 // Turns the lowest bit of a byte, if the sector has that byte.
 pub fn turn_bit(sector: &mut Sector, at: usize)

@@ -3,8 +3,8 @@ ghost use Rattle.std.specs.Prelude.{◌≡◌, ℕ, [], ◌∷◌};
 ghost use Rattle.octets.specs.Fields.{put, zeros};
 ghost use Rattle.sample.specs.Volume.{pottery, loom, free_space};
 
-use octets::fields::put_bytes;
 use descriptor::kinds::{Extent, FreePair, Partition, SetIdentifier, Timestamp, VolumeIdentifier};
+use octets::fields::put_bytes;
 
 // The serial number that the sample's descriptors bear.
 pub const SERIAL: u16 = 1;

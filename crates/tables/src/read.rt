@@ -4,9 +4,9 @@ ghost use Rattle.std.specs.List.{slice_get};
 ghost use Rattle.octets.specs.Rows.{whole_rows};
 ghost use Rattle.tables.specs.Read.{map_of, extent_of, size_of};
 
+use descriptor::kinds::{Extent, PartitionMap};
 use octets::fields::{byte_at, u16_at, u32_at};
 use octets::rows::row_at;
-use descriptor::kinds::{Extent, PartitionMap};
 
 // The partition map in a row of a logical volume's map table.
 pub fn map_row(table: &[u8], row: usize) -> Option<PartitionMap>

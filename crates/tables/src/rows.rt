@@ -2,9 +2,9 @@
 ghost use Rattle.std.specs.Prelude.{◌^◌, ◌<◌};
 ghost use Rattle.tables.specs.Rows.{map_bytes, pair_bytes, free_bytes, size_bytes};
 
+use descriptor::kinds::{BLOCK_BYTES, FreePair, Partition};
 use octets::fields::{put_bytes, put_u32};
 use octets::rows::RowFormat;
-use descriptor::kinds::{BLOCK_BYTES, FreePair, Partition};
 
 // A partition as its map: type 1, length 6, volume 1, its number.
 pub struct MapFormat;

@@ -1,7 +1,7 @@
 // The limits of the kinds that have some.
-use octets::fields::{put_u16, put_u32};
 use descriptor::decode::decode;
 use descriptor::kinds::Place;
+use octets::fields::{put_u16, put_u32};
 use sample::damage::mend_sum;
 
 // A sector of a kind, for sector 0, with no byte under its CRC and up to three fields of 32 bits; its refusal's number,

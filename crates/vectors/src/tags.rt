@@ -1,8 +1,8 @@
 // The example's tag, whole and damaged.
-use octets::fields::put_u16;
 use descriptor::decode::decode;
 use descriptor::kinds::Place;
 use examples::terminating_example;
+use octets::fields::put_u16;
 use sample::damage::{mend_sum, turn_bit};
 
 // The number of the refusal of a sector, or 0 where it passes.

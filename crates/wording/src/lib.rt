@@ -1,12 +1,12 @@
 // Findings in words, as the tool prints them.
 #![tactic(auto)]
 
-use octets::fields::{byte_at, u16_at};
 use descriptor::kinds::{BLOCK_BYTES, Descriptor, Extent, Integrity, Partition};
 use descriptor::refusal::Refusal;
 use descriptor::serial::serial_of;
 use inspection::finding::Finding;
 use inspection::summary::Summary;
+use octets::fields::{byte_at, u16_at};
 use recognition::structure::Structure;
 use std::fmt;
 use tables::read::{extent_row, map_row};
