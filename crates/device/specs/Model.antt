@@ -1,6 +1,6 @@
 -- The meaning of a device: what it holds, as far as any call or power cut can tell.
 use Rattle.std.specs.Prelude.{◌≡◌, ℕ, ◌^◌, ◌<◌, ◌≤◌, Bool, ◌&&◌, nat_lt}
-use Rattle.std.specs.List.{AllByRecursion as All}
+use Rattle.std.specs.List.{AllByRecursion}
 use Rattle.device.specs.Content.{Contents, Whole, unreadable, listed, only}
 
 -- count: how many sectors it has; no call changes it
@@ -25,5 +25,5 @@ nowhere = only unreadable
 pub record Sound (m : Model) : Type 0 where
   pub count : m.count < 2 ^ 32
   pub tally : m.tally < 2 ^ 64
-  pub whole : (s : ℕ) → All Whole (listed (m.contents s))
+  pub whole : (s : ℕ) → AllByRecursion Whole (listed (m.contents s))
   pub past : (s : ℕ) → m.count ≤ s → m.contents s ≡ nowhere

@@ -3,7 +3,7 @@ ghost use Rattle.std.specs.Prelude.{◌≡◌};
 ghost use Rattle.descriptor.specs.declared.kinds.Place.TheVariants.{Anchor, Sequence};
 ghost use Rattle.encode.specs.ReadBack.{ReadsAs, primary_fields, anchor_fields, partition_fields};
 ghost use Rattle.encode.specs.Written.{primary_bytes, anchor_bytes, partition_bytes, terminating_bytes};
-ghost use Rattle.descriptor.specs.Kinds.{terminating as terminating-fields};
+ghost use Rattle.descriptor.specs.Kinds.{terminating as terminating_fields};
 
 use crate::seal::{Stamp, blank, seal};
 use descriptor::kinds::{
@@ -70,7 +70,7 @@ pub fn partition(stamp: Stamp, sequence: u32, partition: Partition) -> Sector
 // The Terminating Descriptor.
 pub fn terminating(stamp: Stamp) -> Sector
     ensures bytes { result ≡ terminating_bytes stamp }
-    ensures read_back { ReadsAs result stamp Sequence (terminating-fields stamp.serial) }
+    ensures read_back { ReadsAs result stamp Sequence (terminating_fields stamp.serial) }
 {
     let mut sector = blank();
     seal(&mut sector, TERMINATING, stamp);

@@ -1,7 +1,7 @@
 -- What is written is read back: the descriptors with a table.
 -- Assumes nothing.
 use Rattle.std.proofs.Common.{◌≡◌, ℕ, ◌+◌, ◌*◌, ◌%◌, ◌^◌, ◌<◌, ◌≤◌, true, eqb, leb, List, ◌++◌, length, get_or, take, drop, Some, Decides, Option, sym, refl, ap, ◌∙◌, arith}
-use Rattle.std.specs.List.{flat_map, AllByRecursion as All}
+use Rattle.std.specs.List.{flat_map, AllByRecursion}
 use Rattle.std.proofs.ByRecursion.{All-get_or}
 use Rattle.std.proofs.lemmas.List.{length-append, append_assoc, drop-drop, drop-append-le, drop_at, take_at}
 use Rattle.std.proofs.lemmas.Bool.{eq-eqb, le-leb, leb-true, and_from, cond-true}
@@ -83,7 +83,7 @@ module _ (stamp : Stamp) (q : ℕ) (id : List ℕ) (ps : List Partition) (e : Ex
       ∙ ap {B = Option Fields} Some (volume_parts ∙ volume_same fits hq hid he few)))
 
 -- unallocated space
-pub short_decides : (free : List FreePair) → Decides (all_short free) (All (λ f. f.count ≤ 524287) free)
+pub short_decides : (free : List FreePair) → Decides (all_short free) (AllByRecursion (λ f. f.count ≤ 524287) free)
 short_decides free = every_decides short (λ f. f.count ≤ 524287) (λ f. (leb-true f.count 524287, le-leb f.count 524287)) free
 
 module _ (stamp : Stamp) (q : ℕ) (free : List FreePair) where
@@ -121,7 +121,7 @@ module _ (stamp : Stamp) (q : ℕ) (free : List FreePair) where
       ∙ (ap (λ (l : List ℕ). u32_at l 0) (drop-append-le (i * 8) joined_pairs (drop (length joined_pairs) (zeros 2024)) (omega arith))
       ∙ ap (λ (l : List ℕ). u32_at (l ++ drop (length joined_pairs) (zeros 2024)) 0) (row_stands pair_bytes 8 (λ _. refl) i free d h)))))
 
-  space_fits : length free ≤ 16 → All (λ f. f.count ≤ 524287) free → unallocated_space_fits (unallocated_space_bytes stamp q free) ≡ true
+  space_fits : length free ≤ 16 → AllByRecursion (λ f. f.count ≤ 524287) free → unallocated_space_fits (unallocated_space_bytes stamp q free) ≡ true
   space_fits few each =
       let n : u32_at (unallocated_space_bytes stamp q free) 20 ≡ length free = space_count ∙ u32_back (length free) (omega arith) in
       and_from (leb (u32_at (unallocated_space_bytes stamp q free) 20) 16) (whole_lengths (unallocated_space_bytes stamp q free) (u32_at (unallocated_space_bytes stamp q free) 20))
@@ -161,7 +161,7 @@ module _ (stamp : Stamp) (q : ℕ) (free : List FreePair) where
       cc
 
   pub unallocated-space-back :
-      StampFits stamp → q < 2 ^ 32 → length free ≤ 16 → All (λ f. f.count ≤ 524287) free →
+      StampFits stamp → q < 2 ^ 32 → length free ≤ 16 → AllByRecursion (λ f. f.count ≤ 524287) free →
       ReadsAs (unallocated_space_bytes stamp q free) stamp Sequence (unallocated_space_fields stamp q free)
   unfolding unallocated_space_bytes
   unallocated-space-back fits hq few each =

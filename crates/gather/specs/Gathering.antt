@@ -2,7 +2,7 @@
 -- Assumes nothing.
 use Rattle.std.specs.Prelude.{◌≡◌, ℕ, ◌≤◌, Bool, true, false, cond, ◌&&◌, ltb, List, [], Some, None, Ok, Err, Option, ◌≢◌, nat_lt, refl}
 use Rattle.std.proofs.Common.{inl, sym, ap, ◌∙◌, subst, arith}
-use Rattle.std.specs.List.{AllByRecursion as All}
+use Rattle.std.specs.List.{AllByRecursion}
 use Rattle.std.proofs.lemmas.Bool.{le-ltb, ltb-false}
 use Rattle.device.specs.declared.fault.Reason.TheVariants.{OffDevice, TakesNoWrites}
 use Rattle.device.specs.Content.{Content, unreadable, holding, listed, Whole}
@@ -129,7 +129,7 @@ module _ (ps : List Pair) (ordered : in_order 0 ps ≡ true) where
     past = λ s le. nothing s le (place ps s) refl;
   }
     where
-      all_whole : (p : Option ℕ) → All Whole (listed (via p nowhere m.contents))
+      all_whole : (p : Option ℕ) → AllByRecursion Whole (listed (via p nowhere m.contents))
       all_whole None = (tt, tt)
       all_whole (Some t) = sound.whole t
 

@@ -1,13 +1,13 @@
 -- The CRC is the remainder of a division.
 -- Assumes nothing.
-use Rattle.std.proofs.Common.{◌≡◌, ℕ, zero, suc, ◌+◌, ◌*◌, ◌%◌, ◌^◌, ◌<◌, ◌≤◌, Bool, true, false, cond, not, ltb, List, [], ◌∷◌, ◌++◌, fold, sym, refl, ap, ◌∙◌, ap₂, ⊎_elim, add-zero, mul_comm, arith}
+use Rattle.std.proofs.Common.{◌≡◌, ℕ, zero, suc, ◌+◌, ◌*◌, ◌%◌, ◌^◌, ◌<◌, ◌≤◌, Bool, cond, not, ltb, List, [], ◌∷◌, ◌++◌, fold, sym, refl, ap, ◌∙◌, ap₂, ⊎_elim, add-zero, mul_comm, arith}
 use lib.Bits.{bit_xor, xor_block, xor_shifted, xor_assoc, xor_comm, xor_self, xor_zero_l, xor_zero_r}
-use Rattle.std.specs.List.{AllByRecursion as All}
+use Rattle.std.specs.List.{AllByRecursion}
 use Rattle.std.proofs.lemmas.Nat.{xor_lt, pow_pos}
 use Rattle.std.proofs.lemmas.List.Sums.{fold_push}
 use Rattle.std.proofs.lemmas.Bool.{cases_lt, cond-true, cond-false, lt-ltb, le-ltb}
 use Rattle.octets.specs.Crc.{shifted, shifts, absorbed, crc}
-use Rattle.octets.specs.Polynomial.{generator, multiple, message, Remainder}
+use Rattle.octets.specs.Polynomial.{generator, multiple, Remainder}
 use Rattle.octets.proofs.Steps.{shifted_fits, absorbed_fits, crc_fits}
 
 -- a sum times a power of x
@@ -87,14 +87,14 @@ byte_step n r b q fits small e =
 
 -- all bytes
 divided :
-    (bs : List ℕ) → All (λ b. b < 256) bs → (n r : ℕ) (q : List Bool) → r < 2 ^ 16 → n * 2 ^ 16 ≡ bit_xor (multiple q) r →
+    (bs : List ℕ) → AllByRecursion (λ b. b < 256) bs → (n r : ℕ) (q : List Bool) → r < 2 ^ 16 → n * 2 ^ 16 ≡ bit_xor (multiple q) r →
     (p : List Bool) × (fold (λ m b. 256 * m + b) n bs * 2 ^ 16 ≡ bit_xor (multiple p) (fold absorbed r bs))
 divided [] all n r q fits e = (q, e)
 divided (b ∷ bs) all n r q fits e =
     let h = byte_step n r b q fits all.0 e in
     divided bs all.1 (256 * n + b) (absorbed r b) h.0 (absorbed_fits r b) h.1
 
-pub remainder : (bs : List ℕ) → All (λ b. b < 256) bs → Remainder bs (crc bs)
+pub remainder : (bs : List ℕ) → AllByRecursion (λ b. b < 256) bs → Remainder bs (crc bs)
 unfolding crc
 remainder bs all =
     let h = divided bs all 0 0 [] (omega arith) refl in

@@ -4,7 +4,7 @@ use Rattle.std.proofs.Common.{◌≡◌, ℕ, zero, suc, ◌+◌, ◌-◌, ◌*�
 use Rattle.std.proofs.lemmas.List.{get_or_past, get_or-drop, set_past, take_at, length-replicate}
 use Rattle.std.proofs.lemmas.Nat.{shr-shr, field_of, mod-pow-add, mod_low, mod_below, pow_pos}
 use Rattle.std.proofs.lemmas.Bool.{cases_lt}
-use Rattle.octets.specs.Fields.{over, put, Puts, zeros, exactly, le16, le32, u16_at, u32_at}
+use Rattle.octets.specs.Fields.{over, put, Puts, zeros, exactly, le32, u16_at, u32_at}
 
 -- nothing put changes nothing
 pub put_none : (at : ℕ) (bs : List ℕ) → put at [] bs ≡ bs

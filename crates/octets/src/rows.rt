@@ -1,7 +1,7 @@
 // Tables: rows of one width, one after the other.
 ghost use Rattle.std.specs.Prelude.{◌≡◌, ℕ, ◌+◌, ◌-◌, ◌^◌, min, List, length};
 ghost use Rattle.std.specs.Option.{option_map};
-ghost use Rattle.std.specs.List.{slice_get, flat_map, AllByRecursion as All};
+ghost use Rattle.std.specs.List.{slice_get, flat_map, AllByRecursion};
 ghost use Rattle.octets.specs.Fields.{put};
 ghost use Rattle.octets.specs.Rows.{whole_rows};
 
@@ -37,7 +37,7 @@ pub trait RowFormat {
 pub fn put_rows<F: RowFormat>(area: &mut [u8], at: usize, items: &[F::Item]) -> usize
     ensures after { area.new ≡ put at (flat_map F.RowFormat.row items.now) area.old }
     ensures next { result ≡ min (at + length (flat_map F.RowFormat.row items.now)) (2 ^ 64 - 1) }
-    ensures fit { All F.RowFormat.fits items.now }
+    ensures fit { AllByRecursion F.RowFormat.fits items.now }
 {
     let mut end = at;
     for item in items {

@@ -1,7 +1,7 @@
 -- When a pair is accepted.
 -- Assumes nothing.
 use Rattle.std.proofs.Common.{◌≡◌, ℕ, ◌<◌, ◌≤◌, Bool, true, false, ◌||◌, eqb, ltb, leb, List, [], ◌∷◌, ◌++◌, length, Ok, Err, Result, sym, refl, ap, ◌∙◌, subst, ⊎_elim, arith}
-use Rattle.std.specs.List.{AllByRecursion as All}
+use Rattle.std.specs.List.{AllByRecursion}
 use Rattle.std.proofs.lemmas.Bool.{cases_Bool, cond-true, cond-false, or_cases, or_parts, or_from, leb-true, leb-false, lt-leb, ltb-true, ltb-false, le-ltb, eqb-true, eqb-false, ne_eqb}
 use Rattle.pairs.specs.declared.pair.Pair.{Pair}
 use Rattle.pairs.specs.declared.fault.PairFault.{PairFault}
@@ -36,14 +36,14 @@ end_grows from (p ∷ ps) h =
     let more = end_grows (pair_end p) ps o.rest in
     omega arith
 
-behind_all : (from : ℕ) (ps : List Pair) (x : ℕ) → in_order from ps ≡ true → end_after from ps ≤ x → All (λ q. pair_end q ≤ x) ps
+behind_all : (from : ℕ) (ps : List Pair) (x : ℕ) → in_order from ps ≡ true → end_after from ps ≤ x → AllByRecursion (λ q. pair_end q ≤ x) ps
 behind_all from [] x h le = tt
 behind_all from (p ∷ ps) x h le =
     let o = order from p ps h in
     let more = end_grows (pair_end p) ps o.rest in
     (omega arith, behind_all (pair_end p) ps x o.rest le)
 
-end_behind : (from : ℕ) (ps : List Pair) (x : ℕ) → from ≤ x → All (λ q. pair_end q ≤ x) ps → end_after from ps ≤ x
+end_behind : (from : ℕ) (ps : List Pair) (x : ℕ) → from ≤ x → AllByRecursion (λ q. pair_end q ≤ x) ps → end_after from ps ≤ x
 end_behind from [] x le all = le
 end_behind from (p ∷ ps) x le all = end_behind (pair_end p) ps x all.0 all.1
 

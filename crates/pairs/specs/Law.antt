@@ -1,6 +1,6 @@
 -- Pairs in the subject's own words: when one is accepted, and which sectors they hold.
 use Rattle.std.specs.Prelude.{◌≡◌, ℕ, zero, suc, ◌<◌, ◌≤◌, List, [], ◌∷◌, ◌++◌, length, Ok, Err, Option, Result}
-use Rattle.std.specs.List.{slice_get, flat_map, AllByRecursion as All}
+use Rattle.std.specs.List.{slice_get, flat_map, AllByRecursion}
 use Rattle.descriptor.specs.Law.{Exactly}
 use Rattle.pairs.specs.declared.pair.Pair.{Pair}
 use Rattle.pairs.specs.declared.fault.PairFault.{PairFault}
@@ -14,7 +14,7 @@ pub record WithinLimits (ps : List Pair) (p : Pair) : Type 0 where
 
 -- in order: it starts at or past the end of each pair before it
 abbrev pub Behind : List Pair → Pair → Type 0
-Behind ps p = All (λ q. pair_end q ≤ p.offset) ps
+Behind ps p = AllByRecursion (λ q. pair_end q ≤ p.offset) ps
 
 -- on the device: it ends at or before its count
 abbrev pub OnDevice : Pair → ℕ → Type 0

@@ -1,7 +1,7 @@
 -- What a queue loses at a power cut.
 -- Assumes nothing.
 use Rattle.std.proofs.Common.{◌≡◌, ℕ, zero, suc, Bool, true, false, cond, eqb, List, [], ◌∷◌, take, sym, refl, subst}
-use Rattle.std.specs.List.{AllByRecursion as All}
+use Rattle.std.specs.List.{AllByRecursion}
 use Rattle.octets.specs.Every.{every}
 use Rattle.device.specs.Content.{Content, holding, listed, only}
 use Rattle.device.specs.Calls.{Sublist, keep}
@@ -18,7 +18,7 @@ unfolding lists
 in_order bs ws s = listed_folded (only (landed bs s)) (for_sector s ws)
 
 -- the oldest of some writes
-all_front : {A : Type 0} (P : A → Type 0) (n : ℕ) (xs : List A) → All P xs → All P (take n xs)
+all_front : {A : Type 0} (P : A → Type 0) (n : ℕ) (xs : List A) → AllByRecursion P xs → AllByRecursion P (take n xs)
 all_front P zero xs all = tt
 all_front P (suc n) [] all = tt
 all_front P (suc n) (x ∷ xs) all = (all.0, all_front P n xs all.1)
@@ -33,7 +33,7 @@ front_waiting s (suc n) (w ∷ ws) = with_first (eqb s w.sector) (front_waiting 
     with_first false p = p
 
 -- what has landed once they have is one of the sector's list
-landed_among : (bs : List ℕ) (ws : List Pending) (n s : ℕ) → All (WellFormed (count_of bs)) ws → Among (landed (all_landed bs (take n ws)) s) (listed (lists bs ws s))
+landed_among : (bs : List ℕ) (ws : List Pending) (n s : ℕ) → AllByRecursion (WellFormed (count_of bs)) ws → Among (landed (all_landed bs (take n ws)) s) (listed (lists bs ws s))
 landed_among bs ws n s all =
     subst (λ (x : Content). Among x (listed (lists bs ws s))) (sym (newest_landed bs (take n ws) (all_front (WellFormed (count_of bs)) n ws all) s))
     (among_sublist (lists bs (take n ws) s).newest front (among_last (lists bs (take n ws) s).newest (lists bs (take n ws) s).earlier))

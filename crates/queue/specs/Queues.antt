@@ -3,7 +3,7 @@
 use Rattle.std.specs.Prelude.{◌≡◌, ℕ, ◌^◌, ◌<◌, ◌≤◌, Bool, true, false, cond, List, [], ◌∷◌, ◌++◌, length, Ok, Decides, fold, ◌==◌, ◌≢◌, nat_lt, refl}
 use Rattle.std.proofs.Common.{⊎_elim, sym, ◌∙◌, subst, arith}
 use Rattle.std.proofs.Math.Path.{ap, fun_ext}
-use Rattle.std.specs.List.{AllByRecursion as All}
+use Rattle.std.specs.List.{AllByRecursion}
 use Rattle.std.proofs.ByRecursion.{All-push}
 use Rattle.std.proofs.lemmas.List.{append-nil, append_assoc}
 use Rattle.std.proofs.lemmas.List.Sums.{fold_push}
@@ -31,7 +31,7 @@ use Rattle.queue.specs.declared.pending.Pending.{Pending}
 abbrev pub WellFormed : ℕ → Pending → Type 0
 WellFormed n w = (w.sector < n) × (length w.bytes ≡ sector_bytes)
 
-pub each_decides : (n : ℕ) (ws : List Pending) → Decides (every (well_formed n) ws) (All (WellFormed n) ws)
+pub each_decides : (n : ℕ) (ws : List Pending) → Decides (every (well_formed n) ws) (AllByRecursion (WellFormed n) ws)
 each_decides n ws =
     every_decides (well_formed n) (WellFormed n)
     (λ w. Decides-and (nat_lt w.sector n) (length w.bytes == sector_bytes) (Decides-ltb w.sector n) (Decides-eqb (length w.bytes) sector_bytes))
@@ -119,7 +119,7 @@ module _ (bs : List ℕ) (w : Pending) (good : WellFormed (count_of bs) w) where
 
 -- the oldest lands
 oldest-dropped :
-    (bs : List ℕ) (ws : List Pending) (tally : ℕ) → All (WellFormed (count_of bs)) ws →
+    (bs : List ℕ) (ws : List Pending) (tally : ℕ) → AllByRecursion (WellFormed (count_of bs)) ws →
     Settling (queue_model bs ws tally) (queue_model (oldest_landed bs ws).0 (oldest_landed bs ws).1 tally)
 oldest-dropped bs [] tally all = record { count = refl; writable = refl; contents = λ s. dropped_none (lists bs [] s) }
 oldest-dropped bs (w ∷ ws) tally all = record { count = count_landing bs w all.0; writable = refl; contents = λ s. head_dropped bs w all.0 ws s }
@@ -130,7 +130,7 @@ at state tally = queue_model state.0 state.1 tally
 
 -- a write that is accepted
 queue-written :
-    (slots : ℕ) (new : Pending) (bs : List ℕ) (ws : List Pending) (tally : ℕ) → All (WellFormed (count_of bs)) ws → WellFormed (count_of bs) new →
+    (slots : ℕ) (new : Pending) (bs : List ℕ) (ws : List Pending) (tally : ℕ) → AllByRecursion (WellFormed (count_of bs)) ws → WellFormed (count_of bs) new →
     Written (queue_model bs ws tally) new.sector new.bytes (at (accepted slots new bs ws) (counted tally))
 queue-written slots new bs ws tally all good =
     cond_both (nat_lt (length ws) slots) (bs, ws ++ new ∷ []) (oldest_landed bs (ws ++ new ∷ []))
@@ -143,17 +143,17 @@ queue-written slots new bs ws tally all good =
     behind_all = subst (Written (queue_model bs ws tally) new.sector new.bytes) (sym (queue_pushed bs ws new tally)) (nothing_dropped (queue_model bs ws tally) new.sector new.bytes)
 
 -- what waits after it is well formed
-oldest_formed : (bs : List ℕ) (ws : List Pending) → All (WellFormed (count_of bs)) ws → All (WellFormed (count_of (oldest_landed bs ws).0)) (oldest_landed bs ws).1
+oldest_formed : (bs : List ℕ) (ws : List Pending) → AllByRecursion (WellFormed (count_of bs)) ws → AllByRecursion (WellFormed (count_of (oldest_landed bs ws).0)) (oldest_landed bs ws).1
 oldest_formed bs [] all = tt
-oldest_formed bs (w ∷ ws) all = subst (λ (n : ℕ). All (WellFormed n) ws) (sym (count_landing bs w all.0)) all.1
+oldest_formed bs (w ∷ ws) all = subst (λ (n : ℕ). AllByRecursion (WellFormed n) ws) (sym (count_landing bs w all.0)) all.1
 
 accepted-formed :
-    (slots : ℕ) (new : Pending) (bs : List ℕ) (ws : List Pending) → All (WellFormed (count_of bs)) ws → WellFormed (count_of bs) new →
-    All (WellFormed (count_of (accepted slots new bs ws).0)) (accepted slots new bs ws).1
+    (slots : ℕ) (new : Pending) (bs : List ℕ) (ws : List Pending) → AllByRecursion (WellFormed (count_of bs)) ws → WellFormed (count_of bs) new →
+    AllByRecursion (WellFormed (count_of (accepted slots new bs ws).0)) (accepted slots new bs ws).1
 accepted-formed slots new bs ws all good =
     let pushed = All-push (WellFormed (count_of bs)) ws new all good in
     cond_both (nat_lt (length ws) slots) (bs, ws ++ new ∷ []) (oldest_landed bs (ws ++ new ∷ []))
-    (λ (state : List ℕ × List Pending). All (WellFormed (count_of state.0)) state.1)
+    (λ (state : List ℕ × List Pending). AllByRecursion (WellFormed (count_of state.0)) state.1)
     (λ _. pushed) (λ _. oldest_formed bs (ws ++ new ∷ []) pushed)
 
 -- both, where a state is told by an equation
@@ -170,7 +170,7 @@ module _
     pub state_formed : every (well_formed (count_of state.0)) state.1 ≡ true
     state_formed =
         (each_decides (count_of state.0) state.1).1
-        (subst (λ (x : List ℕ × List Pending). All (WellFormed (count_of x.0)) x.1) (sym is) (accepted-formed slots new bs ws ((each_decides (count_of bs) ws).0 each) good))
+        (subst (λ (x : List ℕ × List Pending). AllByRecursion (WellFormed (count_of x.0)) x.1) (sym is) (accepted-formed slots new bs ws ((each_decides (count_of bs) ws).0 each) good))
 
     pub state_written : (tally : ℕ) → Written (queue_model bs ws tally) new.sector new.bytes (queue_model state.0 state.1 (counted tally))
     state_written tally =
@@ -178,42 +178,42 @@ module _
         (queue-written slots new bs ws tally ((each_decides (count_of bs) ws).0 each) good)
 
 -- all land
-pub count_all : (bs : List ℕ) (ws : List Pending) → All (WellFormed (count_of bs)) ws → count_of (all_landed bs ws) ≡ count_of bs
+pub count_all : (bs : List ℕ) (ws : List Pending) → AllByRecursion (WellFormed (count_of bs)) ws → count_of (all_landed bs ws) ≡ count_of bs
 count_all bs [] all = refl
 count_all bs (w ∷ ws) all =
     let n = count_landing bs w all.0 in
-    count_all (landing bs w) ws (subst (λ (m : ℕ). All (WellFormed m) ws) (sym n) all.1) ∙ n
+    count_all (landing bs w) ws (subst (λ (m : ℕ). AllByRecursion (WellFormed m) ws) (sym n) all.1) ∙ n
 
-pub newest_landed : (bs : List ℕ) (ws : List Pending) → All (WellFormed (count_of bs)) ws → (s : ℕ) → landed (all_landed bs ws) s ≡ (lists bs ws s).newest
+pub newest_landed : (bs : List ℕ) (ws : List Pending) → AllByRecursion (WellFormed (count_of bs)) ws → (s : ℕ) → landed (all_landed bs ws) s ≡ (lists bs ws s).newest
 unfolding lists
 newest_landed bs [] all s = refl
 newest_landed bs (w ∷ ws) all s =
-    newest_landed (landing bs w) ws (subst (λ (m : ℕ). All (WellFormed m) ws) (sym (count_landing bs w all.0)) all.1) s
+    newest_landed (landing bs w) ws (subst (λ (m : ℕ). AllByRecursion (WellFormed m) ws) (sym (count_landing bs w all.0)) all.1) s
     ∙ (head_dropped bs w all.0 ws s).newest
 
-pub queue_settled : (bs : List ℕ) (ws : List Pending) (tally : ℕ) → All (WellFormed (count_of bs)) ws → queue_model (all_landed bs ws) [] (counted tally) ≡ settled (queue_model bs ws tally)
+pub queue_settled : (bs : List ℕ) (ws : List Pending) (tally : ℕ) → AllByRecursion (WellFormed (count_of bs)) ws → queue_model (all_landed bs ws) [] (counted tally) ≡ settled (queue_model bs ws tally)
 unfolding lists
 queue_settled bs ws tally all =
     same_model (queue_model (all_landed bs ws) [] (counted tally)) (settled (queue_model bs ws tally))
     (count_all bs ws all) (fun_ext (λ s. ap only (newest_landed bs ws all s))) refl refl
 
 -- a queue's model is sound
-waiting_whole : (n s : ℕ) (ws : List Pending) → All (WellFormed n) ws → All Whole (for_sector s ws)
+waiting_whole : (n s : ℕ) (ws : List Pending) → AllByRecursion (WellFormed n) ws → AllByRecursion Whole (for_sector s ws)
 waiting_whole n s [] all = tt
 waiting_whole n s (w ∷ ws) all =
-    cond_both (s == w.sector) (holding w.bytes ∷ for_sector s ws) (for_sector s ws) (All Whole)
+    cond_both (s == w.sector) (holding w.bytes ∷ for_sector s ws) (for_sector s ws) (AllByRecursion Whole)
     (λ _. (all.0.1, waiting_whole n s ws all.1)) (λ _. waiting_whole n s ws all.1)
 
-none_past : (n s : ℕ) (ws : List Pending) → All (WellFormed n) ws → n ≤ s → for_sector s ws ≡ []
+none_past : (n s : ℕ) (ws : List Pending) → AllByRecursion (WellFormed n) ws → n ≤ s → for_sector s ws ≡ []
 none_past n s [] all past = refl
 none_past n s (w ∷ ws) all past = first_elsewhere s w ws (λ e. omega (arith, all.0.0)) ∙ none_past n s ws all.1 past
 
-pub queue_sound : (bs : List ℕ) (ws : List Pending) (tally : ℕ) → All (WellFormed (count_of bs)) ws → tally < 2 ^ 64 → Sound (queue_model bs ws tally)
+pub queue_sound : (bs : List ℕ) (ws : List Pending) (tally : ℕ) → AllByRecursion (WellFormed (count_of bs)) ws → tally < 2 ^ 64 → Sound (queue_model bs ws tally)
 unfolding lists
 queue_sound bs ws tally all fits = record {
   count = omega arith;
   tally = fits;
-  whole = λ s. subst (All Whole) (sym (listed_folded (only (landed bs s)) (for_sector s ws))) (landed_whole bs s, waiting_whole (count_of bs) s ws all);
+  whole = λ s. subst (AllByRecursion Whole) (sym (listed_folded (only (landed bs s)) (for_sector s ws))) (landed_whole bs s, waiting_whole (count_of bs) s ws all);
   past = λ s h. ap (fold followed (only (landed bs s))) (none_past (count_of bs) s ws all h) ∙ ap only (landed_past bs s h);
 }
 

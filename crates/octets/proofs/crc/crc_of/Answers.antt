@@ -1,4 +1,4 @@
-use Rattle.std.proofs.Common.{ℕ, ◌<◌, sym, subst}
+use Rattle.std.proofs.Common.{◌<◌, sym, subst}
 use Rattle.std.proofs.ByRecursion.{All-from_get_or}
 use Rattle.octets.specs.Polynomial.{Remainder}
 use Rattle.octets.proofs.Division.{remainder}
@@ -8,5 +8,5 @@ pub returns : goal.returns
 returns c = record {
   value = c.fold.ensures;
   law = subst (Remainder c.args.bytes.now) (sym c.fold.ensures)
-      (remainder c.args.bytes.now (All-from_get_or (λ b. b < 256) c.args.bytes.now 0 (λ i _. (c.type-inv.bytes i).fits)));
+      (remainder c.args.bytes.now (All-from_get_or (λ b. b < 256) c.args.bytes.now 0 (λ i _. (c.type_inv.bytes i).fits)));
 }

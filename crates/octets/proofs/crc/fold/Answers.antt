@@ -1,4 +1,4 @@
-use Rattle.std.proofs.Common.{◌≡◌, take, fold, sym, refl, ap, ◌∙◌, arith}
+use Rattle.std.proofs.Common.{fold, ap, ◌∙◌, arith}
 use Rattle.std.proofs.lemmas.List.Sums.{fold_more}
 use Rattle.std.proofs.lemmas.List.{take_all}
 use Rattle.octets.specs.Crc.{absorbed, crc}

@@ -5,6 +5,6 @@ use Rattle.octets.proofs.fields.put_bytes.Goals as goal
 
 pub returns : goal.returns
 returns c = record {
-  value = c.copy-in.ensures;
-  law = subst (Puts c.args.at c.args.run.now c.args.area.now) (sym c.copy-in.ensures) (puts c.args.at c.args.run.now c.args.area.now);
+  value = c.copy_in.ensures;
+  law = subst (Puts c.args.at c.args.run.now c.args.area.now) (sym c.copy_in.ensures) (puts c.args.at c.args.run.now c.args.area.now);
 }

@@ -1,5 +1,5 @@
 use Rattle.std.proofs.Common.{◌≡◌, ◌+◌, ◌-◌, ◌^◌, min, length, take}
-use Rattle.std.specs.List.{flat_map, AllByRecursion as All}
+use Rattle.std.specs.List.{flat_map, AllByRecursion}
 use Rattle.octets.specs.Fields.{put}
 use Rattle.octets.proofs.rows.put_rows.Given as goal
 
@@ -8,4 +8,4 @@ abbrev pub invariant-loop-item : goal.invariant-loop-item
 invariant-loop-item g l =
     (l.area ≡ put l.at (flat_map g.F.RowFormat.row (take l.item-index l.items)) l.initial.area)
     × (l.end ≡ min (l.at + length (flat_map g.F.RowFormat.row (take l.item-index l.items))) (2 ^ 64 - 1))
-    × All g.F.RowFormat.fits (take l.item-index l.items)
+    × AllByRecursion g.F.RowFormat.fits (take l.item-index l.items)

@@ -1,4 +1,4 @@
-use Rattle.std.proofs.Common.{◌≡◌, ℕ, zero, ◌+◌, ◌-◌, ◌*◌, ◌/◌, ◌≤◌, List, length, take, drop, Some, Option, sym, ap, ◌∙◌, arith}
+use Rattle.std.proofs.Common.{◌≡◌, ℕ, ◌+◌, ◌-◌, ◌*◌, ◌/◌, ◌≤◌, length, take, drop, Some, sym, ap, ◌∙◌, arith}
 use native.Mathlib.Nat.{div-zero}
 use Rattle.octets.proofs.Tables.{row_inside, nth-rows, nth_rows_past}
 use Rattle.octets.proofs.rows.row_at.Goals as goal
@@ -19,14 +19,14 @@ returns-then-width-eq0 c = sym (nth_rows_past c.args.width (rows_in c) c.args.ro
       | then-width-eq0-via-else-width-eq0+then-row-table w ↦ w.if-row-table.true
     ]
 
-pub overflow-mul-from : goal.overflow-mul-from
-overflow-mul-from c = let i = row_inside (length c.args.table.now) c.args.width c.args.row c.if-row-table.false in record { fits = omega arith }
+pub overflow_mul-from : goal.overflow_mul-from
+overflow_mul-from c = let i = row_inside (length c.args.table.now) c.args.width c.args.row c.if-row-table.false in record { fits = omega arith }
 
-pub overflow-add-result : goal.overflow-add-result
-overflow-add-result c = let i = row_inside (length c.args.table.now) c.args.width c.args.row c.if-row-table.false in record { fits = omega arith }
+pub overflow_add-result : goal.overflow_add-result
+overflow_add-result c = let i = row_inside (length c.args.table.now) c.args.width c.args.row c.if-row-table.false in record { fits = omega arith }
 
-pub slice-bounds-result-end : goal.slice-bounds-result-end
-slice-bounds-result-end c = let i = row_inside (length c.args.table.now) c.args.width c.args.row c.if-row-table.false in omega arith
+pub slice_bounds-result-end : goal.slice_bounds-result-end
+slice_bounds-result-end c = let i = row_inside (length c.args.table.now) c.args.width c.args.row c.if-row-table.false in omega arith
 
 pub returns : goal.returns
 returns c =

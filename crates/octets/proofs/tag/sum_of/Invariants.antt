@@ -1,4 +1,4 @@
-use Rattle.std.proofs.Common.{◌≡◌, ◌%◌, take}
+use Rattle.std.proofs.Common.{◌≡◌, take}
 use Rattle.octets.specs.Tag.{tag_sum}
 use Rattle.octets.proofs.tag.sum_of.Given as goal
 
