@@ -3,7 +3,6 @@ use Rattle.std.specs.Prelude.{ℕ, ◌+◌, ◌*◌, Bool, cond, List, Some, Non
 use Rattle.std.specs.Option.{ok_or}
 use Rattle.octets.specs.Fields.{u16_at, u32_at, part}
 use Rattle.descriptor.specs.declared.kinds.Extent.{Extent}
-use Rattle.descriptor.specs.declared.kinds.Partition.{Partition}
 use Rattle.descriptor.specs.declared.kinds.Integrity.{Integrity}
 use Rattle.descriptor.specs.declared.kinds.Integrity.TheVariants.{Open, Closed}
 use Rattle.descriptor.specs.declared.kinds.Place.{Place}
@@ -11,7 +10,7 @@ use Rattle.descriptor.specs.declared.kinds.Place.TheVariants.{Anchor, Sequence, 
 use Rattle.descriptor.specs.declared.kinds.Descriptor.{Descriptor}
 use Rattle.descriptor.specs.declared.refusal.Refusal.{Refusal}
 use Rattle.descriptor.specs.declared.refusal.Refusal.TheVariants as refusal
-use Rattle.descriptor.specs.Kinds.{PrimaryFields, AnchorFields, ImplementationUseFields, PartitionFields, LogicalVolumeFields, UnallocatedSpaceFields, IntegrityFields, Fields, primary, anchor, implementation_use, partition, logical_volume, unallocated_space, terminating, integrity, fields_of}
+use Rattle.descriptor.specs.Kinds.{Fields, primary, anchor, implementation_use, partition, logical_volume, unallocated_space, terminating, integrity, fields_of}
 use Rattle.descriptor.specs.Checks.{tag_stands, location_stands, crc_stands, logical_volume_fits, unallocated_space_fits, integrity_fits}
 
 -- an extent at an offset: its length in bytes, then its first sector

@@ -1,5 +1,5 @@
 -- The bytes that the CRC covers, cut from those after the tag.
-use Rattle.std.proofs.Common.{◌≡◌, ℕ, ◌-◌, ◌≤◌, Bool, true, ◌&&◌, eqb, leb, List, take, drop, sym, refl, ap, ◌∙◌, arith}
+use Rattle.std.proofs.Common.{◌≡◌, ℕ, ◌-◌, ◌≤◌, Bool, true, ◌&&◌, eqb, leb, List, take, drop, sym, ap, ◌∙◌, arith}
 use Rattle.std.proofs.lemmas.List.{take-take}
 use Rattle.std.proofs.lemmas.Bool.{le-leb}
 use Rattle.octets.specs.Fields.{u16_at}
@@ -16,6 +16,6 @@ stands bs u k n eu en h ek =
 
 pub returns : goal.returns
 returns c =
-    let n : c.from.result - 0 ≡ c.u16-at-covered.result = omega arith in
-    stands c.args.sector.now _ _ c.u16-at-covered.result c.u16_at.ensures c.u16-at-covered.ensures (omega arith)
-    (c.crc-of.ensures.value ∙ ap (λ (m : ℕ). crc (take m (take 2032 (drop 16 c.args.sector.now)))) n)
+    let n : c.from.result - 0 ≡ c.u16_at-covered.result = omega arith in
+    stands c.args.sector.now _ _ c.u16_at-covered.result c.u16_at.ensures c.u16_at-covered.ensures (omega arith)
+    (c.crc_of.ensures.value ∙ ap (λ (m : ℕ). crc (take m (take 2032 (drop 16 c.args.sector.now)))) n)

@@ -1,7 +1,6 @@
 -- A kind that is none of those in a sequence is no descriptor there.
-use Rattle.std.proofs.Common.{◌≡◌, ℕ, false, eqb, List, None, Option, sym, ap, ◌∙◌, arith}
+use Rattle.std.proofs.Common.{◌≡◌, ℕ, eqb, List, None, sym, ap, ◌∙◌, arith}
 use Rattle.std.proofs.lemmas.Bool.{cond-false, ne_eqb}
-use Rattle.descriptor.specs.Kinds.{Fields}
 use Rattle.descriptor.specs.Decode.{sequence_kind}
 use Rattle.descriptor.proofs.decode.in_sequence.Goals as goal
 
@@ -15,8 +14,8 @@ no_kind bs k a b c d e f =
     ∙ (cond-false (eqb k 7) _ _ (ne_eqb k 7 e)
     ∙ cond-false (eqb k 8) _ _ (ne_eqb k 8 f)))))
 
-pub returns-in-default : goal.returns-in-default
-returns-in-default c =
+pub returns-in_default : goal.returns-in_default
+returns-in_default c =
     let k = c.u16_at.result in
     sym (no_kind c.args.sector.now k (omega arith) (omega arith) (omega arith) (omega arith) (omega arith) (omega arith))
     ∙ ap (λ (j : ℕ). sequence_kind j c.args.sector.now) c.u16_at.ensures
