@@ -6,7 +6,7 @@ use Rattle.device.proofs.torn.is_torn.Goals as goal
 
 pub returns : goal.returns
 returns c = record {
-  value = c.some-check-fails.ensures;
-  law = subst (λ (b : Bool). Decides b (Torn (holding c.args.sector.now))) (sym c.some-check-fails.ensures) (torn_decides c.args.sector.now);
+  value = c.some_check_fails.ensures;
+  law = subst (λ (b : Bool). Decides b (Torn (holding c.args.sector.now))) (sym c.some_check_fails.ensures) (torn_decides c.args.sector.now);
   never = no_torn_passes;
 }

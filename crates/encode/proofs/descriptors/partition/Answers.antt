@@ -9,12 +9,12 @@ bytes : (c : goal.After-seal) → c.seal.new.sector ≡ partition_bytes c.args.s
 unfolding partition_bytes
 bytes c =
     c.seal.ensures
-    ∙ ap (sealed 5 c.args.stamp) (also 192 c.put-u32-4.ensures refl
-    (also 188 c.put-u32-3.ensures refl
-    (also 184 c.put-u32-2.ensures refl
-    (also 22 c.put-u16-2.ensures refl
-    (also 20 c.put-u16.ensures refl
-    (also 16 c.put-u32.ensures refl c.blank-sector.ensures))))))
+    ∙ ap (sealed 5 c.args.stamp) (also 192 c.put_u32-4.ensures refl
+    (also 188 c.put_u32-3.ensures refl
+    (also 184 c.put_u32-2.ensures refl
+    (also 22 c.put_u16-2.ensures refl
+    (also 20 c.put_u16.ensures refl
+    (also 16 c.put_u32.ensures refl c.blank-sector.ensures))))))
 
 pub returns : goal.returns
 returns c = record {

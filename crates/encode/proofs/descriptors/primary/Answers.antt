@@ -9,11 +9,11 @@ bytes : (c : goal.After-seal) → c.seal.new.sector ≡ primary_bytes c.args.sta
 unfolding primary_bytes
 bytes c =
     c.seal.ensures
-    ∙ ap (sealed 1 c.args.stamp) (also 488 c.put-u16-5.ensures refl
-    (also 376 c.put-bytes-3.ensures.value (whole _ c.told-recorded)
-    (also 72 c.put-bytes-2.ensures.value (whole _ c.told-volume-set)
-    (also 62 c.put-u16-4.ensures refl
-    (also 60 c.put-u16-3.ensures refl
+    ∙ ap (sealed 1 c.args.stamp) (also 488 c.put_u16-5.ensures refl
+    (also 376 c.put_bytes-3.ensures.value (whole _ c.told-recorded)
+    (also 72 c.put_bytes-2.ensures.value (whole _ c.told-volume_set)
+    (also 62 c.put_u16-4.ensures refl
+    (also 60 c.put_u16-3.ensures refl
     (also 58 c.put-u16-2.ensures refl
     (also 56 c.put-u16.ensures refl
     (also 24 c.put-bytes.ensures.value (whole _ c.told-volume)
@@ -23,5 +23,5 @@ pub returns : goal.returns
 returns c = record {
   bytes = bytes c;
   read_back = written _ c.args.stamp _ _ (bytes c)
-      (primary-back c.args.stamp (record { serial = omega arith; location = omega arith }) c.args.sequence _ _ _ (omega arith) c.told-volume c.told-volume-set c.told-recorded);
+      (primary-back c.args.stamp (record { serial = omega arith; location = omega arith }) c.args.sequence _ _ _ (omega arith) c.told-volume c.told-volume_set c.told-recorded);
 }

@@ -13,6 +13,6 @@ tagged kind stamp n bs long = put_front (tag kind stamp n) bs (omega arith)
 pub returns : goal.returns
 unfolding sealed
 returns c =
-    c.put-bytes.ensures.value
-    ∙ (ap (λ (l : List ℕ). put 0 l c.args.sector.now) (c.tag-of-tag.ensures ∙ ap (tag c.args.kind c.args.stamp) c.crc-of-crc.ensures.value)
+    c.put_bytes.ensures.value
+    ∙ (ap (λ (l : List ℕ). put 0 l c.args.sector.now) (c.tag_of-tag.ensures ∙ ap (tag c.args.kind c.args.stamp) c.crc_of-crc.ensures.value)
     ∙ tagged c.args.kind c.args.stamp (crc (part c.args.sector.now 16 496)) c.args.sector.now c.told-sector)

@@ -15,11 +15,11 @@ laid_out : (kind : ℕ) (stamp : Stamp) (n : ℕ) → fields kind stamp n ≡ ta
 unfolding fields put over
 laid_out kind stamp n = refl
 
-without_sum : (c : goal.After-sum-of) → c.put-u32.new.area ≡ fields c.args.kind c.args.stamp c.args.crc
+without_sum : (c : goal.After-sum_of) → c.put_u32.new.area ≡ fields c.args.kind c.args.stamp c.args.crc
 unfolding fields
 without_sum c =
-    also 12 c.put-u32.ensures refl (also 10 c.put-u16-5.ensures refl (also 8 c.put-u16-4.ensures refl
-    (also 6 c.put-u16-3.ensures refl (also 2 c.put-u16-2.ensures refl (also 0 c.put-u16.ensures refl refl)))))
+    also 12 c.put_u32.ensures refl (also 10 c.put_u16-5.ensures refl (also 8 c.put_u16-4.ensures refl
+    (also 6 c.put_u16-3.ensures refl (also 2 c.put_u16-2.ensures refl (also 0 c.put-u16.ensures refl refl)))))
 
 pub returns : goal.returns
 unfolding tag

@@ -5,4 +5,4 @@ use Rattle.recognition.proofs.written.named.Goals as goal
 
 pub returns : goal.returns
 unfolding named_bytes zeros
-returns c = c.put-bytes-2.ensures.value ∙ ap (put 6 (1 ∷ [])) c.put-bytes.ensures.value
+returns c = c.put_bytes-2.ensures.value ∙ ap (put 6 (1 ∷ [])) c.put_bytes.ensures.value

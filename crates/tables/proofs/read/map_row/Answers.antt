@@ -3,8 +3,8 @@ use Rattle.octets.proofs.Tables.{row_read, row_missing}
 use Rattle.tables.specs.Read.{map_of}
 use Rattle.tables.proofs.read.map_row.Goals as goal
 
-pub returns-in-err-bytes : goal.returns-in-err-bytes
-returns-in-err-bytes c = row_missing map_of (whole_rows 6 c.args.table.now) c.args.row _ c.from-residual.ensures c.in-err-bytes.ensures
+pub returns-in_err-bytes : goal.returns-in_err-bytes
+returns-in_err-bytes c = row_missing map_of (whole_rows 6 c.args.table.now) c.args.row _ c.from_residual.ensures c.in_err-bytes.ensures
 
 pub returns : goal.returns
-returns c = row_read map_of (whole_rows 6 c.args.table.now) c.args.row c.in-ok-bytes.bytes.now _ c.in-ok-bytes.ensures (cc)
+returns c = row_read map_of (whole_rows 6 c.args.table.now) c.args.row c.in_ok-bytes.bytes.now _ c.in_ok-bytes.ensures (cc)
