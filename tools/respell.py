@@ -15,13 +15,13 @@ import re
 import sys
 
 NAME = r"[^\s(){}\[\];,.:@\"`|]+"
-DECLARED = re.compile(r"^\s*(?:(?:pub|abbrev|unfoldable|data|record)\s+)*(" + NAME + r")\s+:\s(.*)$")
+DECLARED = re.compile(r"^\s*(?:(?:pub|abbrev|unfoldable|data|record)\s+)*(" + NAME + r")\s+:(?:\s(.*))?$")
 TOKEN = re.compile(r"(?<![^\s(){}\[\];,.:@\"`|])(" + NAME + r")")
 
 # a dash that joins the names of two functions
 KEPT = {
     "length-joined", "length-put", "length-rows", "length-zeros", "length-stored",
-    "take-over", "put-append", "over-append", "drop-joined", "nth-map", "nth-rows",
+    "ok_or-kind", "take-over", "put-append", "over-append", "drop-joined", "nth-map", "nth-rows",
 }
 # names that hold the old spelling of a word of std
 OTHERWISE = {"okOr-kind": "ok_or-kind"}
@@ -54,7 +54,7 @@ def declared(root):
             continue
         for line in read(path).splitlines():
             m = DECLARED.match(line)
-            if m and "-" in m.group(1).strip("-") and not m.group(2).startswith("goal.") and m.group(1) != "--":
+            if m and "-" in m.group(1).strip("-") and not (m.group(2) or "").startswith("goal.") and m.group(1) != "--":
                 found[m.group(1)].add(os.path.relpath(path, root))
     return {n: w for n, w in found.items() if respelled(n) != n}
 

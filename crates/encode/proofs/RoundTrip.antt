@@ -69,11 +69,11 @@ module _ (stamp : Stamp) (fits : StampFits stamp) where
   unfolding primary_bytes sealed tag put over zeros exactly
   primary_kind q v w d = refl
 
-  pub primary-back :
+  pub primary_back :
       (q : ℕ) (v w d : List ℕ) → q < 2 ^ 32 → length v ≡ 32 → length w ≡ 128 → length d ≡ 12 →
       ReadsAs (primary_bytes stamp q v w d) stamp Sequence (primary_fields stamp q v w d)
   unfolding primary_bytes
-  primary-back q v w d hq hv hw hd =
+  primary_back q v w d hq hv hw hd =
       let eq = u32_back q hq in
       let ev = exactly_whole v 32 hv in
       let ew = exactly_whole w 128 hw in
@@ -93,11 +93,11 @@ module _ (stamp : Stamp) (fits : StampFits stamp) where
       let es = serial_again in
       passes 2 stamp _ Anchor _ fits.location (anchor_kind m r ∙ cc)
 
-  partition-kind :
+  partition_kind :
       (q : ℕ) (p : Partition) →
       kind_in Sequence (partition_bytes stamp q p) ≡ Some (partition_fields again_stamp (again32 q) (again_partition p))
   unfolding partition_bytes sealed tag put over zeros
-  partition-kind q p = refl
+  partition_kind q p = refl
 
   pub partition_back : (q : ℕ) (p : Partition) → q < 2 ^ 32 → PartitionFits p → ReadsAs (partition_bytes stamp q p) stamp Sequence (partition_fields stamp q p)
   unfolding partition_bytes
@@ -105,7 +105,7 @@ module _ (stamp : Stamp) (fits : StampFits stamp) where
       let eq = u32_back q hq in
       let ep = partition_again p hp in
       let es = serial_again in
-      passes 5 stamp _ Sequence _ fits.location (partition-kind q p ∙ cc)
+      passes 5 stamp _ Sequence _ fits.location (partition_kind q p ∙ cc)
 
   terminating_kind : kind_in Sequence (terminating_bytes stamp) ≡ Some (terminating (again16 stamp.serial))
   unfolding terminating_bytes sealed tag zeros

@@ -31,11 +31,11 @@ use Rattle.encode.proofs.RoundTrip.{StampFits, ExtentFits, again16, again32, aga
 
 -- the logical volume
 module _ (stamp : Stamp) (q : ℕ) (id : List ℕ) (ps : List Partition) (e : Extent) where
-  volume-kind :
+  volume_kind :
       kind_in Sequence (logical_volume_bytes stamp q id ps e) ≡
       if_so (logical_volume_fits (logical_volume_bytes stamp q id ps e)) (logical_volume_in (logical_volume_bytes stamp q id ps e))
   unfolding logical_volume_bytes sealed tag put over zeros exactly
-  volume-kind = refl
+  volume_kind = refl
 
   volume_fits : length ps ≤ 8 → logical_volume_fits (logical_volume_bytes stamp q id ps e) ≡ true
   unfolding logical_volume_bytes sealed tag put over zeros exactly
@@ -72,13 +72,13 @@ module _ (stamp : Stamp) (q : ℕ) (id : List ℕ) (ps : List Partition) (e : Ex
       take-over (flat_map map_bytes ps) (zeros 1608) (again32 (6 * length ps)) (omega arith) (omega arith) in
       cc
 
-  pub logical-volume-back :
+  pub logical_volume_back :
       StampFits stamp → q < 2 ^ 32 → length id ≡ 128 → ExtentFits e → length ps ≤ 8 →
       ReadsAs (logical_volume_bytes stamp q id ps e) stamp Sequence (logical_volume_fields stamp q id ps e)
   unfolding logical_volume_bytes
-  logical-volume-back fits hq hid he few =
+  logical_volume_back fits hq hid he few =
       passes 6 stamp _ Sequence _ fits.location
-      (volume-kind
+      (volume_kind
       ∙ (cond-true (logical_volume_fits (logical_volume_bytes stamp q id ps e)) _ _ (volume_fits few)
       ∙ ap {B = Option Fields} Some (volume_parts ∙ volume_same fits hq hid he few)))
 
@@ -87,11 +87,11 @@ pub short_decides : (free : List FreePair) → Decides (all_short free) (AllByRe
 short_decides free = every_decides short (λ f. f.count ≤ 524287) (λ f. (leb-true f.count 524287, le-leb f.count 524287)) free
 
 module _ (stamp : Stamp) (q : ℕ) (free : List FreePair) where
-  space-kind :
+  space_kind :
       kind_in Sequence (unallocated_space_bytes stamp q free) ≡
       if_so (unallocated_space_fits (unallocated_space_bytes stamp q free)) (unallocated_space_in (unallocated_space_bytes stamp q free))
   unfolding unallocated_space_bytes sealed tag put over zeros
-  space-kind = refl
+  space_kind = refl
 
   -- the table stands at 24
   space_table : drop 24 (unallocated_space_bytes stamp q free) ≡ over (flat_map pair_bytes free) (zeros 2024)
@@ -160,23 +160,23 @@ module _ (stamp : Stamp) (q : ℕ) (free : List FreePair) where
       take-over (flat_map pair_bytes free) (zeros 2024) (8 * again32 (length free)) (omega arith) (omega arith) in
       cc
 
-  pub unallocated-space-back :
+  pub unallocated_space_back :
       StampFits stamp → q < 2 ^ 32 → length free ≤ 16 → AllByRecursion (λ f. f.count ≤ 524287) free →
       ReadsAs (unallocated_space_bytes stamp q free) stamp Sequence (unallocated_space_fields stamp q free)
   unfolding unallocated_space_bytes
-  unallocated-space-back fits hq few each =
+  unallocated_space_back fits hq few each =
       passes 7 stamp _ Sequence _ fits.location
-      (space-kind
+      (space_kind
       ∙ (cond-true (unallocated_space_fits (unallocated_space_bytes stamp q free)) _ _ (space_fits few each)
       ∙ ap {B = Option Fields} Some (space_parts ∙ space_same fits hq few)))
 
 -- the integrity descriptor
 module _ (stamp : Stamp) (d : List ℕ) (state : Integrity) (ps : List Partition) where
-  integrity-kind-is :
+  integrity_kind_is :
       kind_in IntegrityExtent (integrity_bytes stamp d state ps) ≡
       if_so (integrity_fits (integrity_bytes stamp d state ps)) (integrity_in (integrity_bytes stamp d state ps))
   unfolding integrity_bytes sealed tag put over zeros exactly
-  integrity-kind-is = refl
+  integrity_kind_is = refl
 
   tables_stand : drop 80 (integrity_bytes stamp d state ps) ≡ over (flat_map free_bytes ps ++ flat_map size_bytes ps) (zeros 1968)
   unfolding integrity_bytes sealed tag put over zeros exactly
@@ -245,12 +245,12 @@ module _ (stamp : Stamp) (d : List ℕ) (state : Integrity) (ps : List Partition
       let ez = sizes_stand few (again32 (length ps)) n in
       cc
 
-  pub integrity-back :
+  pub integrity_back :
       StampFits stamp → length d ≡ 12 → length ps ≤ 8 →
       ReadsAs (integrity_bytes stamp d state ps) stamp IntegrityExtent (integrity_fields stamp d state ps)
   unfolding integrity_bytes
-  integrity-back fits hd few =
+  integrity_back fits hd few =
       passes 9 stamp _ IntegrityExtent _ fits.location
-      (integrity-kind-is
+      (integrity_kind_is
       ∙ (cond-true (integrity_fits (integrity_bytes stamp d state ps)) _ _ (integrity_fits_is few)
       ∙ ap {B = Option Fields} Some (integrity_parts ∙ integrity_same fits hd few)))

@@ -51,19 +51,19 @@ image_sound bs tally fits = record {
 }
 
 -- a read that finds a sector
-pub reading-there :
+pub reading_there :
     (bs : List ℕ) (s tally : ℕ) (from : Origins) (area after : List ℕ) → s < count_of bs → after ≡ sector_of bs s →
     ◌≡◌ {A = Answer × List ℕ} (Ok tt, after) (reading (image_model bs tally) from s area)
-reading-there bs s tally from area after h e =
+reading_there bs s tally from area after h e =
     ap (λ (l : List ℕ). (Ok tt, l)) e
     ∙ (ap (filled from s area) (sym (landed_there bs s h))
     ∙ sym (cond-true (nat_lt s (count_of bs)) (filled from s area (landed bs s)) (refused from OffDevice s, area) (lt-ltb s (count_of bs) h)))
 
 -- a write that lands
-pub image-written :
+pub image_written :
     (bs : List ℕ) (s tally : ℕ) (bytes after : List ℕ) → s < count_of bs → length bytes ≡ sector_bytes → after ≡ stored s bytes bs →
     Written (image_model bs tally) s bytes (image_model after (counted tally))
-image-written bs s tally bytes after h long e =
+image_written bs s tally bytes after h long e =
     subst (λ (l : List ℕ). Written (image_model bs tally) s bytes (image_model l (counted tally))) (sym e) (record {
       count = count_stored s bytes bs;
       writable = refl;

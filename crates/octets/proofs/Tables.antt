@@ -83,10 +83,10 @@ module _ {X : Type 0} (f : X → List ℕ) (width : ℕ) (each : (x : X) → len
   row_stands i xs d h = drop-joined i xs ∙ ap (flat_map f) (drop_more xs i d h)
 
   -- a table's rows, read back one by one
-  pub table-back :
+  pub table_back :
       {Y : Type 0} (dec : List ℕ → Y) (to : X → Y) (P : X → Type 0) → ((x : X) → P x → dec (f x) ≡ to x) → 0 < width →
       (xs : List X) → AllByRecursion P xs → map dec (whole_rows width (flat_map f xs)) ≡ map to xs
-  table-back dec to P agree wide xs all = ap (map dec) (whole_rows_back wide xs) ∙ by_row xs all
+  table_back dec to P agree wide xs all = ap (map dec) (whole_rows_back wide xs) ∙ by_row xs all
     where
       by_row : (ys : List X) → AllByRecursion P ys → map dec (map f ys) ≡ map to ys
       by_row = elim [ [] ↦ λ _. refl | y ∷ (ys → ih) ↦ λ h. ap (λ z. z ∷ map dec (map f ys)) (agree y h.0) ∙ ap (λ zs. to y ∷ zs) (ih h.1) ]

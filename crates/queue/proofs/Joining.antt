@@ -29,20 +29,20 @@ none_full bs after [] new e is = same_state after (landing bs new) [] [] is refl
 none_full bs after (w ∷ ws) new e is = absurd (omega arith)
 
 -- full slots: the first write lands, the others move to the front, and the new one stands last
-pub pushed-out :
+pub pushed_out :
     (bs after : List ℕ) (ws : List Pending) (first new : Pending) (turned : List Pending) (last : ℕ) → 0 < length ws → first ≡ get_or ws 0 first → after ≡ landing bs first →
     turned ≡ drop 1 ws ++ take 1 ws → last + 1 ≡ length ws → ◌≡◌ {A = State} (after, set turned last new) (oldest_landed bs (ws ++ new ∷ []))
-pushed-out bs after [] first new turned last some is lands turns end = absurd (not-suc-le-zero some)
-pushed-out bs after (w ∷ ws) first new turned last some is lands turns end =
+pushed_out bs after [] first new turned last some is lands turns end = absurd (not-suc-le-zero some)
+pushed_out bs after (w ∷ ws) first new turned last some is lands turns end =
     same_state after (landing bs w) (set turned last new) (ws ++ new ∷ [])
     (lands ∙ ap (landing bs) is)
     (ap (λ (l : List Pending). set l last new) turns ∙ set_at ws w [] new last (omega arith))
 
 -- a free slot
-pub free-slot :
+pub free_slot :
     (bs : List ℕ) (slots : List Pending) (n : ℕ) (new : Pending) → n < length slots →
     ◌≡◌ {A = State} (bs, take (n + 1) (set slots n new)) (accepted (length slots) new bs (take n slots))
-free-slot bs slots n new h =
+free_slot bs slots n new h =
     same_state bs bs (take (n + 1) (set slots n new)) (take n slots ++ new ∷ []) refl (take_more_set slots n new h)
     ∙ sym (cond-true (ltb (length (take n slots)) (length slots)) (bs, take n slots ++ new ∷ []) (oldest_landed bs (take n slots ++ new ∷ []))
     (let e = length-take-le n slots (omega arith) in lt-ltb (length (take n slots)) (length slots) (omega arith)))

@@ -118,26 +118,26 @@ module _ (bs : List ℕ) (w : Pending) (good : WellFormed (count_of bs) w) where
         (cases_eq s w.sector)
 
 -- the oldest lands
-oldest-dropped :
+oldest_dropped :
     (bs : List ℕ) (ws : List Pending) (tally : ℕ) → AllByRecursion (WellFormed (count_of bs)) ws →
     Settling (queue_model bs ws tally) (queue_model (oldest_landed bs ws).0 (oldest_landed bs ws).1 tally)
-oldest-dropped bs [] tally all = record { count = refl; writable = refl; contents = λ s. dropped_none (lists bs [] s) }
-oldest-dropped bs (w ∷ ws) tally all = record { count = count_landing bs w all.0; writable = refl; contents = λ s. head_dropped bs w all.0 ws s }
+oldest_dropped bs [] tally all = record { count = refl; writable = refl; contents = λ s. dropped_none (lists bs [] s) }
+oldest_dropped bs (w ∷ ws) tally all = record { count = count_landing bs w all.0; writable = refl; contents = λ s. head_dropped bs w all.0 ws s }
 
 -- a queue with another state, told by an equation
 abbrev at : List ℕ × List Pending → ℕ → Model
 at state tally = queue_model state.0 state.1 tally
 
 -- a write that is accepted
-queue-written :
+queue_written :
     (slots : ℕ) (new : Pending) (bs : List ℕ) (ws : List Pending) (tally : ℕ) → AllByRecursion (WellFormed (count_of bs)) ws → WellFormed (count_of bs) new →
     Written (queue_model bs ws tally) new.sector new.bytes (at (accepted slots new bs ws) (counted tally))
-queue-written slots new bs ws tally all good =
+queue_written slots new bs ws tally all good =
     cond_both (nat_lt (length ws) slots) (bs, ws ++ new ∷ []) (oldest_landed bs (ws ++ new ∷ []))
     (λ (state : List ℕ × List Pending). Written (queue_model bs ws tally) new.sector new.bytes (at state (counted tally)))
     (λ _. behind_all)
     (λ _. written_dropped (queue_model bs ws tally) new.sector new.bytes (queue_model bs (ws ++ new ∷ []) (counted tally)) (at (oldest_landed bs (ws ++ new ∷ [])) (counted tally)) behind_all
-    (oldest-dropped bs (ws ++ new ∷ []) (counted tally) (All-push (WellFormed (count_of bs)) ws new all good)) refl)
+    (oldest_dropped bs (ws ++ new ∷ []) (counted tally) (All-push (WellFormed (count_of bs)) ws new all good)) refl)
   where
     behind_all : Written (queue_model bs ws tally) new.sector new.bytes (queue_model bs (ws ++ new ∷ []) (counted tally))
     behind_all = subst (Written (queue_model bs ws tally) new.sector new.bytes) (sym (queue_pushed bs ws new tally)) (nothing_dropped (queue_model bs ws tally) new.sector new.bytes)
@@ -147,10 +147,10 @@ oldest_formed : (bs : List ℕ) (ws : List Pending) → AllByRecursion (WellForm
 oldest_formed bs [] all = tt
 oldest_formed bs (w ∷ ws) all = subst (λ (n : ℕ). AllByRecursion (WellFormed n) ws) (sym (count_landing bs w all.0)) all.1
 
-accepted-formed :
+accepted_formed :
     (slots : ℕ) (new : Pending) (bs : List ℕ) (ws : List Pending) → AllByRecursion (WellFormed (count_of bs)) ws → WellFormed (count_of bs) new →
     AllByRecursion (WellFormed (count_of (accepted slots new bs ws).0)) (accepted slots new bs ws).1
-accepted-formed slots new bs ws all good =
+accepted_formed slots new bs ws all good =
     let pushed = All-push (WellFormed (count_of bs)) ws new all good in
     cond_both (nat_lt (length ws) slots) (bs, ws ++ new ∷ []) (oldest_landed bs (ws ++ new ∷ []))
     (λ (state : List ℕ × List Pending). AllByRecursion (WellFormed (count_of state.0)) state.1)
@@ -170,12 +170,12 @@ module _
     pub state_formed : every (well_formed (count_of state.0)) state.1 ≡ true
     state_formed =
         (each_decides (count_of state.0) state.1).1
-        (subst (λ (x : List ℕ × List Pending). AllByRecursion (WellFormed (count_of x.0)) x.1) (sym is) (accepted-formed slots new bs ws ((each_decides (count_of bs) ws).0 each) good))
+        (subst (λ (x : List ℕ × List Pending). AllByRecursion (WellFormed (count_of x.0)) x.1) (sym is) (accepted_formed slots new bs ws ((each_decides (count_of bs) ws).0 each) good))
 
     pub state_written : (tally : ℕ) → Written (queue_model bs ws tally) new.sector new.bytes (queue_model state.0 state.1 (counted tally))
     state_written tally =
         subst (λ (x : List ℕ × List Pending). Written (queue_model bs ws tally) new.sector new.bytes (at x (counted tally))) (sym is)
-        (queue-written slots new bs ws tally ((each_decides (count_of bs) ws).0 each) good)
+        (queue_written slots new bs ws tally ((each_decides (count_of bs) ws).0 each) good)
 
 -- all land
 pub count_all : (bs : List ℕ) (ws : List Pending) → AllByRecursion (WellFormed (count_of bs)) ws → count_of (all_landed bs ws) ≡ count_of bs
@@ -230,11 +230,11 @@ newest_overlaid s (w ∷ ws) c area e =
     (newest_overlaid s ws (followed c (holding w.bytes)) w.bytes refl)
     (newest_overlaid s ws c area e)
 
-pub queue-reading :
+pub queue_reading :
     (bs : List ℕ) (ws : List Pending) (s tally : ℕ) (from : Origins) (area found after : List ℕ) → s < count_of bs → found ≡ sector_of bs s → after ≡ overlaid s found ws →
     ◌≡◌ {A = Answer × List ℕ} (Ok tt, after) (reading (queue_model bs ws tally) from s area)
 unfolding lists
-queue-reading bs ws s tally from area found after h is laid =
+queue_reading bs ws s tally from area found after h is laid =
     let content : (lists bs ws s).newest ≡ holding after =
     newest_overlaid s ws (only (landed bs s)) found (landed_there bs s h ∙ ap holding (sym is)) ∙ ap holding (sym laid) in
     ap (filled from s area) (sym content)

@@ -2,7 +2,7 @@ use Rattle.std.proofs.Common.{◌≡◌, refl, ap, ◌∙◌, arith}
 use Rattle.encode.specs.Sealed.{sealed}
 use Rattle.encode.specs.Written.{primary_bytes}
 use Rattle.encode.proofs.Chain.{also, whole, written}
-use Rattle.encode.proofs.RoundTrip.{primary-back}
+use Rattle.encode.proofs.RoundTrip.{primary_back}
 use Rattle.encode.proofs.descriptors.primary.Goals as goal
 
 bytes : (c : goal.After-seal) → c.seal.new.sector ≡ primary_bytes c.args.stamp c.args.sequence c.args.volume.now c.args.volume_set.now c.args.recorded.now
@@ -23,5 +23,5 @@ pub returns : goal.returns
 returns c = record {
   bytes = bytes c;
   read_back = written _ c.args.stamp _ _ (bytes c)
-      (primary-back c.args.stamp (record { serial = omega arith; location = omega arith }) c.args.sequence _ _ _ (omega arith) c.told-volume c.told-volume_set c.told-recorded);
+      (primary_back c.args.stamp (record { serial = omega arith; location = omega arith }) c.args.sequence _ _ _ (omega arith) c.told-volume c.told-volume_set c.told-recorded);
 }

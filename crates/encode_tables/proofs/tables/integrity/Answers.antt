@@ -8,7 +8,7 @@ use Rattle.encode.specs.Sealed.{sealed}
 use Rattle.encode_tables.specs.Written.{integrity_bytes}
 use Rattle.tables.specs.Rows.{free_bytes, size_bytes}
 use Rattle.encode.proofs.Chain.{also, whole, written}
-use Rattle.encode_tables.proofs.RoundTripTables.{integrity-back}
+use Rattle.encode_tables.proofs.RoundTripTables.{integrity_back}
 use Rattle.tables.proofs.RowsBack.{sizes_back}
 use Rattle.encode_tables.proofs.tables.integrity.Goals as goal
 
@@ -30,7 +30,7 @@ returns c = record {
   bytes = ap {B = Result (List ℕ) OffLimits} Ok (bytes c) ∙ sym (cond-true (leb (length c.args.partitions.now) 8) _ _ (le-leb _ _ (omega arith)));
   read_back = (
     written _ c.args.stamp _ _ (bytes c)
-        (integrity-back c.args.stamp c.args.recorded.now c.args.state c.args.partitions.now
+        (integrity_back c.args.stamp c.args.recorded.now c.args.state c.args.partitions.now
         (record { serial = omega arith; location = omega arith }) c.told-recorded (omega arith)),
     sizes_back c.args.partitions.now c.put-rows.ensures.fit,
   );

@@ -4,7 +4,7 @@ use Rattle.encode_tables.specs.declared.limits.OffLimits.{OffLimits}
 use Rattle.encode.specs.Sealed.{sealed}
 use Rattle.encode_tables.specs.Written.{logical_volume_bytes}
 use Rattle.encode.proofs.Chain.{also, whole, written}
-use Rattle.encode_tables.proofs.RoundTripTables.{logical-volume-back}
+use Rattle.encode_tables.proofs.RoundTripTables.{logical_volume_back}
 use Rattle.tables.proofs.RowsBack.{maps_back}
 use Rattle.encode_tables.proofs.tables.logical_volume.Goals as goal
 
@@ -26,7 +26,7 @@ returns c = record {
   bytes = ap {B = Result (List ℕ) OffLimits} Ok (bytes c) ∙ sym (cond-true (leb (length c.args.partitions.now) 8) _ _ (le-leb _ _ (omega arith)));
   read_back = (
     written _ c.args.stamp _ _ (bytes c)
-        (logical-volume-back c.args.stamp c.args.sequence c.args.identifier.now c.args.partitions.now c.args.integrity
+        (logical_volume_back c.args.stamp c.args.sequence c.args.identifier.now c.args.partitions.now c.args.integrity
         (record { serial = omega arith; location = omega arith }) (omega arith) c.told-identifier (record { length = omega arith; location = omega arith }) (omega arith)),
     maps_back c.args.partitions.now c.put-rows.ensures.fit,
   );

@@ -5,7 +5,7 @@ use Rattle.encode_tables.specs.Limits.{all_short}
 use Rattle.encode.specs.Sealed.{sealed}
 use Rattle.encode_tables.specs.Written.{unallocated_space_bytes}
 use Rattle.encode.proofs.Chain.{also, written}
-use Rattle.encode_tables.proofs.RoundTripTables.{unallocated-space-back, short_decides}
+use Rattle.encode_tables.proofs.RoundTripTables.{unallocated_space_back, short_decides}
 use Rattle.tables.proofs.RowsBack.{extents_back, all_both}
 use Rattle.encode_tables.proofs.tables.unallocated_space.Goals as goal
 
@@ -26,7 +26,7 @@ returns c =
           ∙ sym (cond-true (leb (length c.args.free.now) 16) _ _ (le-leb _ _ (omega arith))));
       read_back = (
         written _ c.args.stamp _ _ (bytes c)
-            (unallocated-space-back c.args.stamp c.args.sequence c.args.free.now
+            (unallocated_space_back c.args.stamp c.args.sequence c.args.free.now
             (record { serial = omega arith; location = omega arith }) (omega arith) (omega arith) short),
         extents_back c.args.free.now (all_both c.args.free.now short c.put-rows.ensures.fit),
       );

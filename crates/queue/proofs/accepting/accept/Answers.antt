@@ -1,11 +1,11 @@
 use Rattle.std.proofs.Common.{refl, arith}
 use Rattle.media.specs.Stores.{bytes_of}
-use Rattle.queue.proofs.Joining.{free-slot, no_slot}
+use Rattle.queue.proofs.Joining.{free_slot, no_slot}
 use Rattle.queue.proofs.accepting.accept.Goals as goal
 
 pub returns-then-waiting-len : goal.returns-then-waiting-len
 returns-then-waiting-len c = record {
-  state = free-slot (bytes_of c.args.store.now) c.args.slots.now.items c.args.waiting c.args.new (omega arith);
+  state = free_slot (bytes_of c.args.store.now) c.args.slots.now.items c.args.waiting c.args.new (omega arith);
   within = omega arith;
   len = refl;
 }
