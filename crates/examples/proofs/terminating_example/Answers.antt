@@ -4,4 +4,4 @@ use Rattle.examples.proofs.terminating_example.Goals as goal
 
 pub returns : goal.returns
 unfolding zeros
-returns c = record { value = c.put-bytes.ensures.value; settled = settled }
+returns c = record { value = c.put_bytes.ensures.value; settled = settled }

@@ -14,10 +14,10 @@ bytes c =
     (also 72 c.put_bytes-2.ensures.value (whole _ c.told-volume_set)
     (also 62 c.put_u16-4.ensures refl
     (also 60 c.put_u16-3.ensures refl
-    (also 58 c.put-u16-2.ensures refl
-    (also 56 c.put-u16.ensures refl
-    (also 24 c.put-bytes.ensures.value (whole _ c.told-volume)
-    (also 16 c.put-u32.ensures refl c.blank-sector.ensures)))))))))
+    (also 58 c.put_u16-2.ensures refl
+    (also 56 c.put_u16.ensures refl
+    (also 24 c.put_bytes.ensures.value (whole _ c.told-volume)
+    (also 16 c.put_u32.ensures refl c.blank-sector.ensures)))))))))
 
 pub returns : goal.returns
 returns c = record {

@@ -19,11 +19,11 @@ without_sum : (c : goal.After-sum_of) → c.put_u32.new.area ≡ fields c.args.k
 unfolding fields
 without_sum c =
     also 12 c.put_u32.ensures refl (also 10 c.put_u16-5.ensures refl (also 8 c.put_u16-4.ensures refl
-    (also 6 c.put_u16-3.ensures refl (also 2 c.put_u16-2.ensures refl (also 0 c.put-u16.ensures refl refl)))))
+    (also 6 c.put_u16-3.ensures refl (also 2 c.put_u16-2.ensures refl (also 0 c.put_u16.ensures refl refl)))))
 
 pub returns : goal.returns
 unfolding tag
 returns c =
     let area = without_sum c ∙ laid_out c.args.kind c.args.stamp c.args.crc in
-    ap (λ (l : List ℕ). set l 4 c.sum-of.result) area
-    ∙ ap (λ (n : ℕ). tag_with n c.args.kind c.args.stamp c.args.crc) (c.sum-of.ensures ∙ ap tag_sum area)
+    ap (λ (l : List ℕ). set l 4 c.sum_of.result) area
+    ∙ ap (λ (n : ℕ). tag_with n c.args.kind c.args.stamp c.args.crc) (c.sum_of.ensures ∙ ap tag_sum area)

@@ -17,13 +17,13 @@ unfolding integrity_bytes
 bytes c =
     let ps = c.args.partitions.now in
     c.seal.ensures
-    ∙ ap (sealed 9 c.args.stamp) (c.put-rows.ensures.after
-    ∙ (ap (put c.put-rows-sizes-at.result (flat_map size_bytes ps))
-    (also 80 c.put-rows-sizes-at.ensures.after refl
-    (also 72 c.put-u32-2.ensures refl
-    (also 28 c.put-u32.ensures (ap le32 c.integrity-type.ensures)
-    (also 16 c.put-bytes.ensures.value (whole _ c.told-recorded) c.blank-sector.ensures))))
-    ∙ saturated_put 80 c.put-rows-sizes-at.result (flat_map free_bytes ps) (flat_map size_bytes ps) _ (simp (length-put, length-zeros) (omega arith)) c.put-rows-sizes-at.ensures.next))
+    ∙ ap (sealed 9 c.args.stamp) (c.put_rows.ensures.after
+    ∙ (ap (put c.put_rows-sizes_at.result (flat_map size_bytes ps))
+    (also 80 c.put_rows-sizes_at.ensures.after refl
+    (also 72 c.put_u32-2.ensures refl
+    (also 28 c.put_u32.ensures (ap le32 c.integrity_type.ensures)
+    (also 16 c.put_bytes.ensures.value (whole _ c.told-recorded) c.blank-sector.ensures))))
+    ∙ saturated_put 80 c.put_rows-sizes_at.result (flat_map free_bytes ps) (flat_map size_bytes ps) _ (simp (length-put, length-zeros) (omega arith)) c.put_rows-sizes_at.ensures.next))
 
 pub returns : goal.returns
 returns c = record {
@@ -32,6 +32,6 @@ returns c = record {
     written _ c.args.stamp _ _ (bytes c)
         (integrity_back c.args.stamp c.args.recorded.now c.args.state c.args.partitions.now
         (record { serial = omega arith; location = omega arith }) c.told-recorded (omega arith)),
-    sizes_back c.args.partitions.now c.put-rows.ensures.fit,
+    sizes_back c.args.partitions.now c.put_rows.ensures.fit,
   );
 }

@@ -12,14 +12,14 @@ bytes : (c : goal.After-seal) → c.seal.new.sector ≡ logical_volume_bytes c.a
 unfolding logical_volume_bytes
 bytes c =
     c.seal.ensures
-    ∙ ap (sealed 6 c.args.stamp) (also 440 c.put-rows.ensures.after refl
-    (also 436 c.put-u32-6.ensures refl
-    (also 432 c.put-u32-5.ensures refl
-    (also 268 c.put-u32-4.ensures refl
-    (also 264 c.put-u32-3.ensures refl
-    (also 212 c.put-u32-2.ensures refl
-    (also 84 c.put-bytes.ensures.value (whole _ c.told-identifier)
-    (also 16 c.put-u32.ensures refl c.blank-sector.ensures))))))))
+    ∙ ap (sealed 6 c.args.stamp) (also 440 c.put_rows.ensures.after refl
+    (also 436 c.put_u32-6.ensures refl
+    (also 432 c.put_u32-5.ensures refl
+    (also 268 c.put_u32-4.ensures refl
+    (also 264 c.put_u32-3.ensures refl
+    (also 212 c.put_u32-2.ensures refl
+    (also 84 c.put_bytes.ensures.value (whole _ c.told-identifier)
+    (also 16 c.put_u32.ensures refl c.blank-sector.ensures))))))))
 
 pub returns : goal.returns
 returns c = record {
@@ -28,6 +28,6 @@ returns c = record {
     written _ c.args.stamp _ _ (bytes c)
         (logical_volume_back c.args.stamp c.args.sequence c.args.identifier.now c.args.partitions.now c.args.integrity
         (record { serial = omega arith; location = omega arith }) (omega arith) c.told-identifier (record { length = omega arith; location = omega arith }) (omega arith)),
-    maps_back c.args.partitions.now c.put-rows.ensures.fit,
+    maps_back c.args.partitions.now c.put_rows.ensures.fit,
   );
 }

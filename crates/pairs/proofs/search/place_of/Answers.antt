@@ -11,8 +11,8 @@ loop-pair-preserved c = (
   sym (place_on c.args.pairs.now c.loop-pair.pair-index c.loop-pair-test.true c.loop-pair.rest c.if-rest-pair.false) ∙ c.loop-pair.invariant.1,
 )
 
-pub overflow-add-result : goal.overflow-add-result
-overflow-add-result c =
+pub overflow_add-result : goal.overflow_add-result
+overflow_add-result c =
     let o = order_at c.args.pairs.now c.loop-pair.pair-index c.loop-pair-test.true c.loop-pair.invariant.0.0 c.loop-pair.invariant.0.1 in
     omega (arith, o.fits)
 

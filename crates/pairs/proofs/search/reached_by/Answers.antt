@@ -12,13 +12,13 @@ loop-pair-preserved c =
     let more = reached_at c.args.pairs.now c.loop-pair.pair-index c.loop-pair-test.true c.args.count in
     ((_, o.rest), omega (arith, more))
 
-pub overflow-add-end : goal.overflow-add-end
-overflow-add-end c =
+pub overflow_add-end : goal.overflow_add-end
+overflow_add-end c =
     let o = order_at c.args.pairs.now c.loop-pair.pair-index c.loop-pair-test.true c.loop-pair.invariant.0.0 c.loop-pair.invariant.0.1 in
     omega (arith, o.fits)
 
-pub overflow-add-total : goal.overflow-add-total
-overflow-add-total c =
+pub overflow_add-total : goal.overflow_add-total
+overflow_add-total c =
     let more = reached_at c.args.pairs.now c.loop-pair.pair-index c.loop-pair-test.true c.args.count in
     let most = reached_most 0 c.args.pairs.now c.args.count c.requires (omega arith) in
     omega (arith, more, most)

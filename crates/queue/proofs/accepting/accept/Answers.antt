@@ -12,7 +12,7 @@ returns-then-waiting-len c = record {
 
 pub returns : goal.returns
 returns c = record {
-  state = no_slot (bytes_of c.args.store.now) (bytes_of c.push-out.new.store) c.args.slots.now.items c.push-out.new.slots.items c.args.waiting c.args.new (omega arith) c.push-out.ensures.state c.len-2.result (omega arith);
+  state = no_slot (bytes_of c.args.store.now) (bytes_of c.push_out.new.store) c.args.slots.now.items c.push_out.new.slots.items c.args.waiting c.args.new (omega arith) c.push_out.ensures.state c.len-2.result (omega arith);
   within = omega arith;
-  len = c.push-out.ensures.len;
+  len = c.push_out.ensures.len;
 }

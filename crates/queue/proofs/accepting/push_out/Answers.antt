@@ -12,6 +12,6 @@ returns-then-len-eq0 c = record {
 pub returns : goal.returns
 returns c =
     record {
-      state = pushed_out (bytes_of c.args.store.now) (bytes_of c.land-2.new.store) c.args.slots.now.items c.index.result.now c.args.new c.rotate-left.new.self.items (c.len-last.result - 1) (omega arith) c.index.ensures c.land-2.ensures c.rotate-left.ensures.items (omega arith);
-      len = c.rotate-left.ensures.len;
+      state = pushed_out (bytes_of c.args.store.now) (bytes_of c.land-2.new.store) c.args.slots.now.items c.index.result.now c.args.new c.rotate_left.new.self.items (c.len-last.result - 1) (omega arith) c.index.ensures c.land-2.ensures c.rotate_left.ensures.items (omega arith);
+      len = c.rotate_left.ensures.len;
     }

@@ -3,4 +3,4 @@ use Rattle.sample.proofs.volume.short_name.Goals as goal
 
 pub returns : goal.returns
 unfolding zeros
-returns c = c.put-bytes.ensures.value
+returns c = c.put_bytes.ensures.value

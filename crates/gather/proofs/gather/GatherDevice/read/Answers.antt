@@ -8,7 +8,7 @@ use Rattle.gather.proofs.gather.GatherDevice.read.Goals as goal
 
 pub returns-in-Some : goal.returns-in-Some
 returns-in-Some g c =
-    ap {B = Answer × List ℕ} (λ (a : Answer). (a, c.read.new.area)) c.hand-up.ensures
+    ap {B = Answer × List ℕ} (λ (a : Answer). (a, c.read.new.area)) c.hand_up.ensures
     ∙ (ap {B = Answer × List ℕ} (λ (x : Answer × List ℕ). (handed_up x.0, x.1)) c.read.ensures
     ∙ sym (reading_some (pairs_of c.args.self.now.pairs) c.args.self.now.pairs.ordered (g.D.Device.model c.args.self.now.below) (g.D.Device.origins c.args.self.now.below) c.args.sector c.in-Some.at (sym c.in-Some.ensures.value) c.args.area.now))
 

@@ -15,8 +15,8 @@ returns-in-Some g c =
     let m' = g.D.Device.model c.write.new.self in
     let at = sym c.in-Some.ensures.value in
     record {
-      answer = c.hand-up.ensures ∙ (ap handed_up c.write.ensures.answer ∙ sym (permitted_some ps ordered m (g.D.Device.origins c.args.self.now.below) c.args.sector c.in-Some.at at));
-      after = subst (AfterWrite (gathered ps m) c.args.sector c.args.bytes.now (gathered ps m')) (sym c.hand-up.ensures) (gathered_after ps ordered m c.args.sector c.in-Some.at c.args.bytes.now m' c.write.result at c.write.ensures.after);
+      answer = c.hand_up.ensures ∙ (ap handed_up c.write.ensures.answer ∙ sym (permitted_some ps ordered m (g.D.Device.origins c.args.self.now.below) c.args.sector c.in-Some.at at));
+      after = subst (AfterWrite (gathered ps m) c.args.sector c.args.bytes.now (gathered ps m')) (sym c.hand_up.ensures) (gathered_after ps ordered m c.args.sector c.in-Some.at c.args.bytes.now m' c.write.result at c.write.ensures.after);
       origin = ap (gather_origins ps) c.write.ensures.origin;
     }
 

@@ -22,7 +22,7 @@ returns g c =
     let m = g.D.Device.model c.args.self.now.below in
     let m' = g.D.Device.model c.write.new.self in
     record {
-      answer = c.hand-up.ensures ∙ (ap handed_up c.write.ensures.answer ∙ sym (permitted_outside ps m (g.D.Device.origins c.args.self.now.below) c.args.sector (sym c.if-guards.ensures)));
-      after = subst (AfterWrite (guarded ps m) c.args.sector c.args.bytes.now (guarded ps m')) (sym c.hand-up.ensures) (guarded_after ps m c.args.sector c.args.bytes.now m' c.write.result c.write.ensures.after);
+      answer = c.hand_up.ensures ∙ (ap handed_up c.write.ensures.answer ∙ sym (permitted_outside ps m (g.D.Device.origins c.args.self.now.below) c.args.sector (sym c.if-guards.ensures)));
+      after = subst (AfterWrite (guarded ps m) c.args.sector c.args.bytes.now (guarded ps m')) (sym c.hand_up.ensures) (guarded_after ps m c.args.sector c.args.bytes.now m' c.write.result c.write.ensures.after);
       origin = ap (guard_origins ps) c.write.ensures.origin;
     }

@@ -8,7 +8,7 @@ pub returns : goal.returns
 returns c =
     let s = c.args.sector in
     let v = c.args.self.now.bytes in
-    let area = c.put-bytes.new.area in
-    let n : length area ≡ v.len = omega (arith, c.put-bytes.ensures.law.long) in
+    let area = c.put_bytes.new.area in
+    let n : length area ≡ v.len = omega (arith, c.put_bytes.ensures.law.long) in
     putting_there s c.args.bytes.now v.items (take v.len (area ++ drop (length area) v.items)) (omega arith)
-    (take_at area (drop (length area) v.items) v.len n ∙ (c.put-bytes.ensures.value ∙ ap (stored s c.args.bytes.now) c.deref-mut.ensures.value))
+    (take_at area (drop (length area) v.items) v.len n ∙ (c.put_bytes.ensures.value ∙ ap (stored s c.args.bytes.now) c.deref-mut.ensures.value))

@@ -8,5 +8,5 @@ use Rattle.pairs.proofs.table.Pairs.hold.Goals as goal
 
 pub returns : goal.returns
 returns c =
-    let found : c.one-holds.result ≡ within (pairs_of c.args.self.now) c.args.sector = simp unary_clauses at c.one-holds.ensures in
-    record { value = found; law = Decides-at c.one-holds.result (within (pairs_of c.args.self.now) c.args.sector) found (within_decides (pairs_of c.args.self.now) c.args.sector) }
+    let found : c.one_holds.result ≡ within (pairs_of c.args.self.now) c.args.sector = simp unary_clauses at c.one_holds.ensures in
+    record { value = found; law = Decides-at c.one_holds.result (within (pairs_of c.args.self.now) c.args.sector) found (within_decides (pairs_of c.args.self.now) c.args.sector) }

@@ -7,5 +7,5 @@ use Rattle.pairs.proofs.table.Pairs.place.Goals as goal
 
 pub returns : goal.returns
 returns c =
-    let found : c.place-of.result ≡ place (pairs_of c.args.self.now) c.args.sector = simp unary_clauses at c.place-of.ensures in
+    let found : c.place_of.result ≡ place (pairs_of c.args.self.now) c.args.sector = simp unary_clauses at c.place_of.ensures in
     record { value = found; law = found ∙ place_nth (pairs_of c.args.self.now) c.args.sector }

@@ -7,8 +7,8 @@ use Rattle.queue.proofs.queue.Queue.into_parts.Goals as goal
 
 pub returns : goal.returns
 returns c = record {
-  bytes = c.into-bytes.ensures;
+  bytes = c.into_bytes.ensures;
   slots = refl;
-  cut = subst (λ (bs : List ℕ). Cut (model_of c.args.self) (queue_model bs [] 0)) (sym c.into-bytes.ensures) (queue_laws.others_lost (landed_bytes c.args.self) (waiting_list c.args.self) 0 c.args.self.tally 0 c.args.self.each);
+  cut = subst (λ (bs : List ℕ). Cut (model_of c.args.self) (queue_model bs [] 0)) (sym c.into_bytes.ensures) (queue_laws.others_lost (landed_bytes c.args.self) (waiting_list c.args.self) 0 c.args.self.tally 0 c.args.self.each);
   laws = queue_laws;
 }

@@ -12,5 +12,5 @@ returns c =
     let bs = landed_bytes q in
     let s = c.args.sector in
     let p = passed s (count_of bs) (sector_of bs s) c.args.area.now c.get.result c.get.new.area c.get.ensures c.if-not-get.false in
-    queue_reading bs (waiting_list q) s q.tally queue_origins c.args.area.now c.get.new.area c.lay-over.new.area p.0 p.1
-    (c.lay-over.ensures ∙ ap (overlaid s c.get.new.area) c.pending.ensures)
+    queue_reading bs (waiting_list q) s q.tally queue_origins c.args.area.now c.get.new.area c.lay_over.new.area p.0 p.1
+    (c.lay_over.ensures ∙ ap (overlaid s c.get.new.area) c.pending.ensures)

@@ -13,7 +13,7 @@ returns c =
     let bs = landed_bytes q in
     let ws = waiting_list q in
     let cut = first_slots q.waiting c.deref.result.now q.slots.items c.deref.ensures.value in
-    let lands = c.land-all.ensures ∙ ap (all_landed bs) cut in
+    let lands = c.land_all.ensures ∙ ap (all_landed bs) cut in
     record {
       after = ap (λ (l : List ℕ). queue_model l [] (counted q.tally)) lands ∙ queue_settled bs ws q.tally ((each_decides (count_of bs) ws).0 q.each);
       origin = refl;
