@@ -11,4 +11,4 @@ returns c =
     let area = c.put_bytes.new.area in
     let n : length area ≡ v.len = omega (arith, c.put_bytes.ensures.law.long) in
     putting_there s c.args.bytes.now v.items (take v.len (area ++ drop (length area) v.items)) (omega arith)
-    (take_at area (drop (length area) v.items) v.len n ∙ (c.put_bytes.ensures.value ∙ ap (stored s c.args.bytes.now) c.deref-mut.ensures.value))
+    (take_at area (drop (length area) v.items) v.len n ∙ (c.put_bytes.ensures.value ∙ ap (stored s c.args.bytes.now) c.deref_mut.ensures.value))

@@ -6,8 +6,8 @@ use Rattle.pairs.proofs.Ordering.{in_order_push, end_after_push}
 use Rattle.pairs.proofs.Adding.{accepted_from}
 use Rattle.pairs.proofs.table.Pairs.accept.Goals as goal
 
-pub invariant-of-self : goal.invariant-of-self
-invariant-of-self c =
+pub invariant_of-self : goal.invariant_of-self
+invariant_of-self c =
     let t = c.args.self.now in
     let p = c.args.pair in
     let more = take_more_set t.items t.len p (omega arith) in
