@@ -11,13 +11,12 @@ invariant_of-self c =
     let t = c.args.self.now in
     let p = c.args.pair in
     let more = take_more_set t.items t.len p (omega arith) in
-    let ordered = in_order_push 0 (take t.len t.items) p t.ordered (omega (arith, t.ends)) (omega arith) (omega arith) in (
-      omega arith,
-      (
-        subst (λ (l : List Pair). in_order 0 l ≡ true) (sym more) ordered,
-        (sym (end_after_push 0 (take t.len t.items) p) ∙ ap (end_after 0) (sym more), tt),
-      ),
-    )
+    let ordered = in_order_push 0 (take t.len t.items) p t.ordered (omega (arith, t.ends)) (omega arith) (omega arith) in
+    record {
+      few = omega arith;
+      ordered = subst (λ (l : List Pair). in_order 0 l ≡ true) (sym more) ordered;
+      ends = sym (end_after_push 0 (take t.len t.items) p) ∙ ap (end_after 0) (sym more);
+    }
 
 pub returns : goal.returns
 returns c =
