@@ -8,12 +8,16 @@ use Rattle.queue.proofs.Joining.{State}
 use Rattle.queue.specs.Queues.{state_formed, state_written}
 use Rattle.queue.proofs.queue.calls.QueueDevice.write.Goals as goal
 
-pub invariant-of-self : goal.invariant-of-self
-invariant-of-self c =
+pub invariant_of-self : goal.invariant_of-self
+invariant_of-self c =
     let q = c.args.self.now in
     let new : Pending = record { sector = c.args.sector; bytes = c.args.bytes.now } in
     let after : State = (bytes_of c.accept-self.new.store, take c.accept-self.result c.accept-self.new.slots.items) in
-    (omega arith, (state_formed (slots_of q) new (landed_bytes q) (waiting_list q) q.each (omega arith, omega arith) after c.accept-self.ensures.state, (omega arith, tt)))
+    record {
+      within = omega arith;
+      each = state_formed (slots_of q) new (landed_bytes q) (waiting_list q) q.each (omega arith, omega arith) after c.accept-self.ensures.state;
+      counts = omega arith;
+    }
 
 pub returns : goal.returns
 returns c =
