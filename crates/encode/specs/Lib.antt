@@ -1,3 +1,4 @@
 pub mod Sealed
 pub mod Written
 pub mod ReadBack
+pub mod Limits

@@ -1,5 +1,7 @@
-// The descriptors that are written, each under its tag: those with no table.
+// The descriptors that are written, each under its tag.
 #![tactic(auto)]
 
 pub mod descriptors;
+pub mod limits;
 pub mod seal;
+pub mod tables;

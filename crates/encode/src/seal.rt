@@ -23,7 +23,7 @@ pub struct Stamp {
 }
 
 // A sector of zeros.
-pub fn blank() -> Sector
+pub(crate) fn blank() -> Sector
     ensures { result ≡ zeros 2048 }
 {
     [0; 2048]
@@ -45,7 +45,7 @@ fn tag_of(kind: u16, stamp: Stamp, crc: u16) -> [u8; 16]
 }
 
 // Puts the tag on a sector whose other bytes stand.
-pub fn seal(sector: &mut Sector, kind: u16, stamp: Stamp)
+pub(crate) fn seal(sector: &mut Sector, kind: u16, stamp: Stamp)
     ensures { sector.new ≡ sealed kind stamp sector.old }
 {
     let crc = crc_of(&sector[16..512]);

@@ -3,8 +3,8 @@ use Rattle.std.specs.Prelude.{◌≡◌, ℕ, ◌+◌, ◌^◌, ◌<◌, Bool, t
 use Rattle.inspection.specs.Counts.{all_met}
 use Rattle.inspection.specs.Findings.{Found, descriptor, structure, refused, blank, other}
 use Rattle.inspection.specs.declared.summary.Summary.{Summary}
-use Rattle.fault.specs.declared.Fault.{Fault}
-use Rattle.fault.specs.declared.Fault.TheVariants as case
+use Rattle.image.specs.declared.fault.Fault.{Fault}
+use Rattle.image.specs.declared.fault.Fault.TheVariants as case
 
 -- whether a finding is worth a line
 abbrev pub told : Found → Bool
@@ -21,10 +21,7 @@ Met n before after = all_met before + n < 2 ^ 64 → all_met after ≡ all_met b
 -- a file that ends inside a sector has some bytes of it, and not all
 abbrev pub Cut : Fault → Type 0
 Cut (case.Io e) = Unit {0}
-Cut (case.Memory e) = Unit {0}
 Cut (case.OffLimits limit) = Unit {0}
-Cut (case.Device below) = Unit {0}
-Cut (case.Pair below) = Unit {0}
 Cut case.Empty = Unit {0}
 Cut (case.Partial sector bytes) = (0 < bytes) × (bytes < 2048)
 Cut case.TooLong = Unit {0}

@@ -4,8 +4,8 @@ ghost use Rattle.inspection.specs.Counts.{noted, all_met};
 ghost use Rattle.inspection.specs.Findings.{examined, found_in};
 ghost use Rattle.image.specs.Reports.{told, Met, Cut};
 
+use crate::fault::Fault;
 use descriptor::kinds::Sector;
-use fault::Fault;
 use inspection::finding::{Finding, examine};
 use inspection::summary::Summary;
 use std::io::Read;

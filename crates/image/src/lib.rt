@@ -1,4 +1,5 @@
 // An image file gone through sector by sector.
 #![tactic(auto)]
 
+pub mod fault;
 pub mod inspect;

@@ -1,9 +1,9 @@
 // The demonstration of a pile: a gather layer over a guard layer over a queue.
 ghost use Rattle.std.specs.Prelude.{◌≡◌, ◌+◌, ◌%◌, ◌^◌, IfOk};
 
+use crate::fault::Fault;
 use descriptor::kinds::SECTOR_BYTES;
 use device::interface::Device;
-use fault::Fault;
 use gather::gather::Gather;
 use guard::guard::Guard;
 use pairs::pair::Pair;

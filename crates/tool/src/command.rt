@@ -1,13 +1,12 @@
 // The command line.
 ghost use Rattle.std.specs.Prelude.{◌≡◌, ◌<◌, IfOk};
 ghost use Rattle.inspection.specs.Counts.{all_met};
-ghost use Rattle.fault.specs.declared.Fault.TheVariants.{Usage};
+ghost use Rattle.image.specs.declared.fault.Fault.TheVariants.{Usage};
 
-use demonstration::demonstrate;
-use fault::Fault;
+use crate::demonstration::demonstrate;
+use image::fault::Fault;
 use image::inspect::inspect;
 use inspection::summary::Summary;
-use pile::show::show_pile;
 use std::env;
 use wording::Totals;
 
@@ -37,7 +36,7 @@ fn usage(rt: &HostRuntime) -> Fault
     fault
 }
 
-// Does what the words on the command line ask: nothing, and it demonstrates descriptors and a pile of layers; `inspect FILE`, and it inspects that file.
+// Does what the words on the command line ask: nothing, and it demonstrates; `inspect FILE`, and it inspects that file.
 // What is met is at least one sector.
 pub fn run(rt: &HostRuntime) -> Result<Summary, Fault>
     ensures { IfOk result (λ s. 0 < all_met s) }
@@ -45,9 +44,7 @@ pub fn run(rt: &HostRuntime) -> Result<Summary, Fault>
     let mut words = env::args(rt)?;
     let _program = words.next();
     let Some(verb) = words.next() else {
-        let summary = demonstrate(rt)?;
-        show_pile(rt)?;
-        return Ok(summary);
+        return demonstrate(rt);
     };
     let Some(path) = words.next() else {
         return Err(usage(rt));

@@ -1,6 +1,6 @@
 // Image files: whole, short, empty and missing.
 use examples::terminating_example;
-use fault::Fault;
+use image::fault::Fault;
 use image::inspect::{fill, inspect};
 use inspection::summary::Summary;
 use std::io::Read;

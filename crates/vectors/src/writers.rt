@@ -1,9 +1,9 @@
 // The limits of what is written, and the rows of tables that are read back.
 use descriptor::decode::decode;
 use descriptor::kinds::{Descriptor, Extent, FreePair, Integrity, Partition, Place};
+use encode::limits::OffLimits;
 use encode::seal::Stamp;
-use encode_tables::limits::OffLimits;
-use encode_tables::tables::{integrity, logical_volume, unallocated_space};
+use encode::tables::{integrity, logical_volume, unallocated_space};
 use std::test::Fail;
 use tables::read::{extent_row, map_row, size_row};
 

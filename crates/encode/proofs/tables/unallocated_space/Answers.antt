@@ -1,13 +1,13 @@
 use Rattle.std.proofs.Common.{◌≡◌, ℕ, leb, List, length, Ok, Result, sym, refl, ap, ◌∙◌, arith}
 use Rattle.std.proofs.lemmas.Bool.{cond-true, le-leb}
-use Rattle.encode_tables.specs.declared.limits.OffLimits.{OffLimits}
-use Rattle.encode_tables.specs.Limits.{all_short}
+use Rattle.encode.specs.declared.limits.OffLimits.{OffLimits}
+use Rattle.encode.specs.Limits.{all_short}
 use Rattle.encode.specs.Sealed.{sealed}
-use Rattle.encode_tables.specs.Written.{unallocated_space_bytes}
+use Rattle.encode.specs.Written.{unallocated_space_bytes}
 use Rattle.encode.proofs.Chain.{also, written}
-use Rattle.encode_tables.proofs.RoundTripTables.{unallocated_space_back, short_decides}
+use Rattle.encode.proofs.RoundTripTables.{unallocated_space_back, short_decides}
 use Rattle.tables.proofs.RowsBack.{extents_back, all_both}
-use Rattle.encode_tables.proofs.tables.unallocated_space.Goals as goal
+use Rattle.encode.proofs.tables.unallocated_space.Goals as goal
 
 bytes : (c : goal.After-seal) → c.seal.new.sector ≡ unallocated_space_bytes c.args.stamp c.args.sequence c.args.free.now
 unfolding unallocated_space_bytes

@@ -1,18 +1,17 @@
 // The descriptors with a table that are written.
 ghost use Rattle.std.specs.Prelude.{◌≡◌, IfOk};
 ghost use Rattle.descriptor.specs.declared.kinds.Place.TheVariants.{Sequence, IntegrityExtent};
-ghost use Rattle.encode_tables.specs.Limits.{within_partitions, within_pairs};
+ghost use Rattle.encode.specs.Limits.{within_partitions, within_pairs};
 ghost use Rattle.tables.specs.Back.{MapsBack, ExtentsBack, SizesBack};
-ghost use Rattle.encode.specs.ReadBack.{ReadsAs};
-ghost use Rattle.encode_tables.specs.ReadBack.{logical_volume_fields, unallocated_space_fields, integrity_fields};
-ghost use Rattle.encode_tables.specs.Written.{logical_volume_bytes, unallocated_space_bytes, integrity_bytes, type_of};
+ghost use Rattle.encode.specs.ReadBack.{ReadsAs, logical_volume_fields, unallocated_space_fields, integrity_fields};
+ghost use Rattle.encode.specs.Written.{logical_volume_bytes, unallocated_space_bytes, integrity_bytes, type_of};
 
 use crate::limits::{OffLimits, lengths_fit};
+use crate::seal::{Stamp, blank, seal};
 use descriptor::kinds::{
     BLOCK_BYTES, Extent, FreePair, INTEGRITY, Integrity, LOGICAL_VOLUME, MOST_PAIRS,
     MOST_PARTITIONS, Partition, Sector, SetIdentifier, Timestamp, UNALLOCATED_SPACE,
 };
-use encode::seal::{Stamp, blank, seal};
 use octets::fields::{put_bytes, put_u32};
 use octets::rows::put_rows;
 

@@ -1,38 +1,25 @@
-// Why the tool could not do what it was asked.
-#![tactic(auto)]
-
+// Why the pile could not be shown.
 ghost use Rattle.std.specs.Prelude.{◌≡◌};
-ghost use Rattle.fault.specs.declared.Fault.TheVariants.{Io, Memory, OffLimits as Limit, Device, Pair};
+ghost use Rattle.pile.specs.declared.fault.Fault.TheVariants.{Io, Memory, Device, Pair};
 
 use device::fault::DeviceFault;
-use encode_tables::limits::OffLimits;
 use pairs::fault::PairFault;
 use refusals::{Refused, RefusedPair};
 use std::alloc::AllocError;
 use std::error::Error;
 use std::{fmt, io};
 
-// A fault of the tool.
+// A fault of the demonstration.
 #[derive(Debug, Drop)]
 pub enum Fault {
-    // the system refused to open, read or print
+    // the system refused to print
     Io(io::Error),
     // there was no memory
     Memory(AllocError),
-    // a descriptor would pass a limit
-    OffLimits(OffLimits),
     // a device refused
     Device(DeviceFault),
     // a layer refused a pair
     Pair(PairFault),
-    // the image has no sector
-    Empty,
-    // the image ends inside a sector
-    Partial { sector: u32, bytes: usize },
-    // the image has more sectors than a card can number
-    TooLong,
-    // the words on the command line mean nothing
-    Usage,
 }
 
 impl From<io::Error> for Fault {
@@ -48,14 +35,6 @@ impl From<AllocError> for Fault {
 
     fn from(refused: AllocError) -> Fault {
         Fault::Memory(refused)
-    }
-}
-
-impl From<OffLimits> for Fault {
-    ghost from_gives = { λ e r. r ≡ Limit e };
-
-    fn from(passed: OffLimits) -> Fault {
-        Fault::OffLimits(passed)
     }
 }
 
@@ -83,10 +62,6 @@ impl fmt::Display for Fault {
                 write!(f, "{e}")
             }
             Fault::Memory(_) => write!(f, "there is no memory"),
-            Fault::OffLimits(limit) => {
-                let number = limit.number();
-                write!(f, "refused {number}: a table or an extent is too long")
-            }
             Fault::Device(fault) => {
                 let refused = Refused(*fault);
                 write!(f, "{refused}")
@@ -95,17 +70,6 @@ impl fmt::Display for Fault {
                 let refused = RefusedPair(*fault);
                 write!(f, "{refused}")
             }
-            Fault::Empty => write!(f, "the image is shorter than one sector of 2048 bytes"),
-            Fault::Partial { sector, bytes } => {
-                let sector = *sector;
-                let bytes = *bytes;
-                write!(
-                    f,
-                    "the image ends inside sector {sector}, after {bytes} of its 2048 bytes"
-                )
-            }
-            Fault::TooLong => write!(f, "the image has more sectors than a card can number"),
-            Fault::Usage => write!(f, "usage: cardtool, or cardtool inspect FILE"),
         }
     }
 }

@@ -3,14 +3,14 @@ use Rattle.std.specs.List.{flat_map}
 use Rattle.std.proofs.lemmas.Bool.{cond-true, le-leb}
 use Rattle.octets.specs.Fields.{put, le32}
 use Rattle.octets.proofs.Runs.{saturated_put, length-put, length-zeros}
-use Rattle.encode_tables.specs.declared.limits.OffLimits.{OffLimits}
+use Rattle.encode.specs.declared.limits.OffLimits.{OffLimits}
 use Rattle.encode.specs.Sealed.{sealed}
-use Rattle.encode_tables.specs.Written.{integrity_bytes}
+use Rattle.encode.specs.Written.{integrity_bytes}
 use Rattle.tables.specs.Rows.{free_bytes, size_bytes}
 use Rattle.encode.proofs.Chain.{also, whole, written}
-use Rattle.encode_tables.proofs.RoundTripTables.{integrity_back}
+use Rattle.encode.proofs.RoundTripTables.{integrity_back}
 use Rattle.tables.proofs.RowsBack.{sizes_back}
-use Rattle.encode_tables.proofs.tables.integrity.Goals as goal
+use Rattle.encode.proofs.tables.integrity.Goals as goal
 
 bytes : (c : goal.After-seal) → c.seal.new.sector ≡ integrity_bytes c.args.stamp c.args.recorded.now c.args.state c.args.partitions.now
 unfolding integrity_bytes

@@ -1,6 +1,6 @@
 use Rattle.std.proofs.Common.{◌≡◌, drop}
-use Rattle.encode_tables.specs.Limits.{all_short}
-use Rattle.encode_tables.proofs.limits.lengths_fit.Given as goal
+use Rattle.encode.specs.Limits.{all_short}
+use Rattle.encode.proofs.limits.lengths_fit.Given as goal
 
 -- what is left of the list gives the answer
 abbrev pub invariant-loop-pair : goal.invariant-loop-pair

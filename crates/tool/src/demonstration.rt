@@ -1,16 +1,14 @@
 // The demonstration: the descriptors of a small volume are written and inspected, and so are damaged copies of them.
-#![tactic(auto)]
-
 ghost use Rattle.std.specs.Prelude.{◌≡◌, ℕ, IfOk, OnOk};
 ghost use Rattle.inspection.specs.Counts.{all_met};
 ghost use Rattle.image.specs.Reports.{Met};
 
 use descriptor::kinds::{Integrity, Sector};
 use encode::descriptors::{anchor, partition, primary, terminating};
+use encode::limits::OffLimits;
 use encode::seal::Stamp;
-use encode_tables::limits::OffLimits;
-use encode_tables::tables::{integrity, logical_volume, unallocated_space};
-use fault::Fault;
+use encode::tables::{integrity, logical_volume, unallocated_space};
+use image::fault::Fault;
 use image::inspect::report;
 use inspection::summary::Summary;
 use recognition::written::{beginning_area, nsr, terminating_area};

@@ -4,8 +4,8 @@ use Rattle.octets.specs.Every.{every}
 use Rattle.descriptor.specs.Limits.{most_partitions, most_pairs}
 use Rattle.descriptor.specs.declared.kinds.FreePair.{FreePair}
 use Rattle.descriptor.specs.declared.kinds.Partition.{Partition}
-use Rattle.encode_tables.specs.declared.limits.OffLimits.{OffLimits}
-use Rattle.encode_tables.specs.declared.limits.OffLimits.TheVariants.{Partitions, Pairs, PairLength}
+use Rattle.encode.specs.declared.limits.OffLimits.{OffLimits}
+use Rattle.encode.specs.declared.limits.OffLimits.TheVariants.{Partitions, Pairs, PairLength}
 
 abbrev pub limit_number : OffLimits → ℕ
 limit_number Partitions = 34

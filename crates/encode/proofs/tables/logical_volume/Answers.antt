@@ -1,12 +1,12 @@
-use Rattle.std.proofs.Common.{◌≡◌, ℕ, leb, List, length, Ok, Result, sym, refl, ap, ◌∙◌, arith}
+use Rattle.std.proofs.Common.{◌≡◌, ℕ, true, leb, List, length, Ok, Result, sym, refl, ap, ◌∙◌, arith}
 use Rattle.std.proofs.lemmas.Bool.{cond-true, le-leb}
-use Rattle.encode_tables.specs.declared.limits.OffLimits.{OffLimits}
+use Rattle.encode.specs.declared.limits.OffLimits.{OffLimits}
 use Rattle.encode.specs.Sealed.{sealed}
-use Rattle.encode_tables.specs.Written.{logical_volume_bytes}
+use Rattle.encode.specs.Written.{logical_volume_bytes}
 use Rattle.encode.proofs.Chain.{also, whole, written}
-use Rattle.encode_tables.proofs.RoundTripTables.{logical_volume_back}
+use Rattle.encode.proofs.RoundTripTables.{logical_volume_back}
 use Rattle.tables.proofs.RowsBack.{maps_back}
-use Rattle.encode_tables.proofs.tables.logical_volume.Goals as goal
+use Rattle.encode.proofs.tables.logical_volume.Goals as goal
 
 bytes : (c : goal.After-seal) → c.seal.new.sector ≡ logical_volume_bytes c.args.stamp c.args.sequence c.args.identifier.now c.args.partitions.now c.args.integrity
 unfolding logical_volume_bytes

@@ -1,6 +1,6 @@
 // The limits of what is written.
 ghost use Rattle.std.specs.Prelude.{◌≡◌};
-ghost use Rattle.encode_tables.specs.Limits.{limit_number, all_short};
+ghost use Rattle.encode.specs.Limits.{limit_number, all_short};
 
 use descriptor::kinds::FreePair;
 

@@ -1,8 +1,9 @@
+use Rattle.std.proofs.Common.{arith}
 use Rattle.std.proofs.lemmas.Bool.{le-leb, lt-leb}
 use Rattle.octets.proofs.Scans.{every_stops, every_goes, every_ends}
 use Rattle.descriptor.specs.declared.kinds.FreePair.{FreePair}
-use Rattle.encode_tables.specs.Limits.{short}
-use Rattle.encode_tables.proofs.limits.lengths_fit.Goals as goal
+use Rattle.encode.specs.Limits.{short}
+use Rattle.encode.proofs.limits.lengths_fit.Goals as goal
 
 abbrev none : FreePair
 none = record { first = 0; count = 0 }
