@@ -14,6 +14,7 @@ use descriptor::kinds::{
 };
 use octets::fields::{put_bytes, put_u32};
 use octets::rows::put_rows;
+use tables::rows::{FreeFormat, MapFormat, PairFormat, SizeFormat};
 
 // The Logical Volume Descriptor, with a map of each partition.
 pub fn logical_volume(
@@ -38,7 +39,7 @@ pub fn logical_volume(
     put_u32(&mut sector, 268, maps);
     put_u32(&mut sector, 432, integrity.length);
     put_u32(&mut sector, 436, integrity.location);
-    put_rows::<tables::rows::MapFormat>(&mut sector, 440, partitions);
+    put_rows::<MapFormat>(&mut sector, 440, partitions);
     seal(&mut sector, LOGICAL_VOLUME, stamp);
     Ok(sector)
 }
@@ -61,7 +62,7 @@ pub fn unallocated_space(
     let mut sector = blank();
     put_u32(&mut sector, 16, sequence);
     put_u32(&mut sector, 20, free.len() as u32);
-    put_rows::<tables::rows::PairFormat>(&mut sector, 24, free);
+    put_rows::<PairFormat>(&mut sector, 24, free);
     seal(&mut sector, UNALLOCATED_SPACE, stamp);
     Ok(sector)
 }
@@ -93,8 +94,8 @@ pub fn integrity(
     put_bytes(&mut sector, 16, recorded);
     put_u32(&mut sector, 28, integrity_type(state));
     put_u32(&mut sector, 72, partitions.len() as u32);
-    let sizes_at = put_rows::<tables::rows::FreeFormat>(&mut sector, 80, partitions);
-    put_rows::<tables::rows::SizeFormat>(&mut sector, sizes_at, partitions);
+    let sizes_at = put_rows::<FreeFormat>(&mut sector, 80, partitions);
+    put_rows::<SizeFormat>(&mut sector, sizes_at, partitions);
     seal(&mut sector, INTEGRITY, stamp);
     Ok(sector)
 }
