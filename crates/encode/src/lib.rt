@@ -4,4 +4,4 @@
 pub mod descriptors;
 pub mod limits;
 pub mod seal;
-pub mod tables;
+pub mod table_descriptors;

@@ -7,7 +7,7 @@ use descriptor::kinds::{Integrity, Sector};
 use encode::descriptors::{anchor, partition, primary, terminating};
 use encode::limits::OffLimits;
 use encode::seal::Stamp;
-use encode::tables::{integrity, logical_volume, unallocated_space};
+use encode::table_descriptors::{integrity, logical_volume, unallocated_space};
 use image::fault::Fault;
 use image::inspect::report;
 use inspection::summary::Summary;

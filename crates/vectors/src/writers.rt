@@ -3,7 +3,7 @@ use descriptor::decode::decode;
 use descriptor::kinds::{Descriptor, Extent, FreePair, Integrity, Partition, Place};
 use encode::limits::OffLimits;
 use encode::seal::Stamp;
-use encode::tables::{integrity, logical_volume, unallocated_space};
+use encode::table_descriptors::{integrity, logical_volume, unallocated_space};
 use std::test::Fail;
 use tables::read::{extent_row, map_row, size_row};
 

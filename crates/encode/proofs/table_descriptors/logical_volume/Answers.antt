@@ -6,7 +6,7 @@ use Rattle.encode.specs.Written.{logical_volume_bytes}
 use Rattle.encode.proofs.Chain.{also, whole, written}
 use Rattle.encode.proofs.RoundTripTables.{logical_volume_back}
 use Rattle.tables.proofs.RowsBack.{maps_back}
-use Rattle.encode.proofs.tables.logical_volume.Goals as goal
+use Rattle.encode.proofs.table_descriptors.logical_volume.Goals as goal
 
 bytes : (c : goal.After-seal) → c.seal.new.sector ≡ logical_volume_bytes c.args.stamp c.args.sequence c.args.identifier.now c.args.partitions.now c.args.integrity
 unfolding logical_volume_bytes

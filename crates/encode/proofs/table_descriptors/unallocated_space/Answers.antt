@@ -7,7 +7,7 @@ use Rattle.encode.specs.Written.{unallocated_space_bytes}
 use Rattle.encode.proofs.Chain.{also, written}
 use Rattle.encode.proofs.RoundTripTables.{unallocated_space_back, short_decides}
 use Rattle.tables.proofs.RowsBack.{extents_back, all_both}
-use Rattle.encode.proofs.tables.unallocated_space.Goals as goal
+use Rattle.encode.proofs.table_descriptors.unallocated_space.Goals as goal
 
 bytes : (c : goal.After-seal) → c.seal.new.sector ≡ unallocated_space_bytes c.args.stamp c.args.sequence c.args.free.now
 unfolding unallocated_space_bytes

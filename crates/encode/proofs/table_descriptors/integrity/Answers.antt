@@ -10,7 +10,7 @@ use Rattle.tables.specs.Rows.{free_bytes, size_bytes}
 use Rattle.encode.proofs.Chain.{also, whole, written}
 use Rattle.encode.proofs.RoundTripTables.{integrity_back}
 use Rattle.tables.proofs.RowsBack.{sizes_back}
-use Rattle.encode.proofs.tables.integrity.Goals as goal
+use Rattle.encode.proofs.table_descriptors.integrity.Goals as goal
 
 bytes : (c : goal.After-seal) → c.seal.new.sector ≡ integrity_bytes c.args.stamp c.args.recorded.now c.args.state c.args.partitions.now
 unfolding integrity_bytes
