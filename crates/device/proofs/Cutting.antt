@@ -7,7 +7,7 @@ use Rattle.std.proofs.lemmas.List.{length_push}
 use Rattle.device.specs.Content.{Content, Contents, holding, listed, only, followed}
 use Rattle.device.specs.Model.{Model, takes_writes}
 use Rattle.device.specs.Calls.{Dropped, Written, Sublist, settled}
-use Rattle.device.specs.Cuts.{Among, Left, listed_before, torn_since, LeftOfWrite, torn_under_way, landed, Cut, CutInWrite, Settling, written, CutLaws}
+use Rattle.device.specs.Cuts.{Among, Left, torn_since, LeftOfWrite, torn_under_way, landed, Cut, CutInWrite, Settling, written, CutLaws}
 use Rattle.device.proofs.Lists.{sublist_same, sublist_length, among_sublist, among_push, among_last, among_front, same_contents, dropped_none, dropped_all, dropped_listed}
 
 -- what is left of a list from which contents were dropped could have been left of the list before

@@ -1,15 +1,14 @@
 -- Whatever body stands under a tag, the tag passes its checks.
 -- Assumes nothing.
-use Rattle.std.proofs.Common.{◌≡◌, ℕ, ◌+◌, ◌*◌, ◌/◌, ◌%◌, ◌^◌, ◌<◌, Bool, true, List, Some, Ok, Option, Result, sym, refl, ap, ◌∙◌, arith}
+use Rattle.std.proofs.Common.{◌≡◌, ℕ, ◌^◌, ◌<◌, true, List, Some, Ok, Option, refl, ap, ◌∙◌}
 use Rattle.std.specs.Option.{ok_or}
 use Rattle.std.proofs.lemmas.Bool.{eq-eqb, and_from}
-use Rattle.octets.specs.Fields.{u16_at, u32_at, part}
+use Rattle.octets.specs.Fields.{part}
 use Rattle.octets.specs.Crc.{crc}
 use Rattle.octets.specs.Tag.{tag_sum}
 use Rattle.octets.proofs.Runs.{u16_back, u32_back}
 use Rattle.octets.proofs.Steps.{crc_fits}
 use Rattle.descriptor.specs.declared.kinds.Place.{Place}
-use Rattle.descriptor.specs.declared.refusal.Refusal.{Refusal}
 use Rattle.descriptor.specs.declared.refusal.Refusal.TheVariants as refusal
 use Rattle.descriptor.specs.Kinds.{Fields}
 use Rattle.descriptor.specs.Checks.{tag_stands, location_stands, crc_stands}

@@ -1,12 +1,12 @@
 -- What is written is read back: the descriptors with no table.
 -- Assumes nothing.
-use Rattle.std.proofs.Common.{◌≡◌, ℕ, ◌+◌, ◌*◌, ◌/◌, ◌%◌, ◌^◌, ◌<◌, List, length, Some, Option, sym, refl, ap, ◌∙◌}
+use Rattle.std.proofs.Common.{◌≡◌, ℕ, ◌+◌, ◌*◌, ◌/◌, ◌%◌, ◌^◌, ◌<◌, List, length, Some, refl, ◌∙◌}
 use Rattle.octets.specs.Fields.{put, over, zeros, exactly}
 use Rattle.octets.proofs.Runs.{u16_back, u32_back, exactly_whole}
 use Rattle.descriptor.specs.declared.kinds.Extent.{Extent}
 use Rattle.descriptor.specs.declared.kinds.Partition.{Partition}
 use Rattle.descriptor.specs.declared.kinds.Place.TheVariants.{Anchor, Sequence}
-use Rattle.descriptor.specs.Kinds.{Fields, terminating}
+use Rattle.descriptor.specs.Kinds.{terminating}
 use Rattle.descriptor.specs.Decode.{kind_in}
 use Rattle.encode.specs.declared.seal.Stamp.{Stamp}
 use Rattle.encode.specs.Sealed.{sealed, tag}

@@ -1,12 +1,11 @@
 -- What is written is read back: the descriptors with a table.
 -- Assumes nothing.
-use Rattle.std.proofs.Common.{◌≡◌, ℕ, ◌+◌, ◌*◌, ◌/◌, ◌%◌, ◌^◌, ◌<◌, ◌≤◌, Bool, true, eqb, leb, List, [], ◌∷◌, ◌++◌, map, length, get_or, take, drop, Some, Decides, Option, sym, refl, ap, ◌∙◌, arith}
+use Rattle.std.proofs.Common.{◌≡◌, ℕ, ◌+◌, ◌*◌, ◌%◌, ◌^◌, ◌<◌, ◌≤◌, true, eqb, leb, List, ◌++◌, length, get_or, take, drop, Some, Decides, Option, sym, refl, ap, ◌∙◌, arith}
 use Rattle.std.specs.List.{flat_map, AllByRecursion}
 use Rattle.std.proofs.ByRecursion.{All-get_or}
 use Rattle.std.proofs.lemmas.List.{length-append, append_assoc, drop-drop, drop-append-le, drop_at, take_at}
 use Rattle.std.proofs.lemmas.Bool.{eq-eqb, le-leb, leb-true, and_from, cond-true}
-use Rattle.octets.specs.Fields.{put, over, zeros, exactly, u16_at, u32_at, part}
-use Rattle.octets.specs.Rows.{whole_rows}
+use Rattle.octets.specs.Fields.{put, over, zeros, exactly, u32_at, part}
 use Rattle.octets.proofs.Runs.{u16_back, u32_back, exactly_whole, over_front, take-over, u32_drop, length-zeros}
 use Rattle.octets.proofs.Scans.{every_decides}
 use Rattle.octets.proofs.Tables.{length-joined, row_stands}
@@ -16,7 +15,7 @@ use Rattle.descriptor.specs.declared.kinds.Partition.{Partition}
 use Rattle.descriptor.specs.declared.kinds.Integrity.{Integrity}
 use Rattle.descriptor.specs.declared.kinds.Integrity.TheVariants.{Open, Closed}
 use Rattle.descriptor.specs.declared.kinds.Place.TheVariants.{Sequence, IntegrityExtent}
-use Rattle.descriptor.specs.Kinds.{Fields, LogicalVolumeFields, UnallocatedSpaceFields, IntegrityFields, logical_volume, unallocated_space, integrity}
+use Rattle.descriptor.specs.Kinds.{Fields, logical_volume, unallocated_space, integrity}
 use Rattle.descriptor.specs.Checks.{logical_volume_fits, unallocated_space_fits, integrity_fits, whole_lengths}
 use Rattle.descriptor.specs.Decode.{kind_in, if_so, logical_volume_in, unallocated_space_in, integrity_in, state_of}
 use Rattle.descriptor.proofs.Lengths.{whole_decides}

@@ -1,5 +1,5 @@
 -- What each written sector is read back as.
-use Rattle.std.specs.Prelude.{◌≡◌, ℕ, List, length, Ok, Result}
+use Rattle.std.specs.Prelude.{◌≡◌, ℕ, List, length, Ok}
 use Rattle.std.specs.List.{flat_map}
 use Rattle.descriptor.specs.Limits.{sector_bytes}
 use Rattle.descriptor.specs.declared.kinds.Extent.{Extent}
@@ -7,8 +7,7 @@ use Rattle.descriptor.specs.declared.kinds.FreePair.{FreePair}
 use Rattle.descriptor.specs.declared.kinds.Integrity.{Integrity}
 use Rattle.descriptor.specs.declared.kinds.Partition.{Partition}
 use Rattle.descriptor.specs.declared.kinds.Place.{Place}
-use Rattle.descriptor.specs.declared.refusal.Refusal.{Refusal}
-use Rattle.descriptor.specs.Kinds.{Fields, PrimaryFields, AnchorFields, PartitionFields, LogicalVolumeFields, UnallocatedSpaceFields, IntegrityFields, primary, anchor, partition, logical_volume, unallocated_space, terminating, integrity}
+use Rattle.descriptor.specs.Kinds.{Fields, primary, anchor, partition, logical_volume, unallocated_space, integrity}
 use Rattle.descriptor.specs.Decode.{decoded}
 use Rattle.encode.specs.declared.seal.Stamp.{Stamp}
 use Rattle.tables.specs.Rows.{map_bytes, pair_bytes, size_bytes}

@@ -1,5 +1,5 @@
 -- A descriptor under its tag: version 3, CRC of the 496 bytes after the tag, serial and location as given.
-use Rattle.std.specs.Prelude.{ℕ, List, [], ◌∷◌, ◌++◌, drop}
+use Rattle.std.specs.Prelude.{ℕ, List, ◌∷◌, ◌++◌, drop}
 use Rattle.octets.specs.Fields.{part, le16, le32}
 use Rattle.octets.specs.Crc.{crc}
 use Rattle.octets.specs.Tag.{tag_sum}

@@ -9,7 +9,7 @@ use Rattle.device.specs.Content.{Content, unreadable, holding, listed, Whole}
 use Rattle.device.specs.Model.{Model, Sound, nowhere, takes_writes}
 use Rattle.device.specs.Faults.{Origins, deeper, handed_up}
 use Rattle.device.specs.Calls.{Answer, refused, filled, reading, permitted, Sublist, Dropped, Written, AfterWrite}
-use Rattle.device.specs.Cuts.{Left, LeftOfWrite, listed_before, Cut, CutInWrite}
+use Rattle.device.specs.Cuts.{Left, LeftOfWrite, Cut, CutInWrite}
 use Rattle.device.proofs.Lists.{dropped_none}
 use Rattle.pairs.specs.declared.pair.Pair.{Pair}
 use Rattle.pairs.specs.Pairs.{in_order, place, reached}

@@ -5,7 +5,7 @@ use Rattle.std.specs.List.{AllByRecursion}
 use Rattle.octets.specs.Every.{every}
 use Rattle.device.specs.Content.{Content, holding, listed, only}
 use Rattle.device.specs.Calls.{Sublist, keep}
-use Rattle.device.specs.Cuts.{Among, Left, listed_before, Cut}
+use Rattle.device.specs.Cuts.{Among, Left, Cut}
 use Rattle.device.proofs.Lists.{sublist_none, among_sublist, among_last}
 use Rattle.media.specs.Landed.{count_of, landed}
 use Rattle.queue.specs.Waiting.{for_sector, lists, queue_model, all_landed, well_formed}

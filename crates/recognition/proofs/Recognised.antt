@@ -1,6 +1,6 @@
 -- What is written is recognised, whichever identifier it names.
 -- Assumes nothing.
-use Rattle.std.proofs.Common.{◌≡◌, Some, Option, refl}
+use Rattle.std.proofs.Common.{◌≡◌, Some, refl}
 use Rattle.octets.specs.Fields.{put, over, zeros}
 use Rattle.recognition.specs.declared.structure.Structure.{Structure}
 use Rattle.recognition.specs.declared.structure.Structure.TheVariants.{Bea01, Boot2, Nsr03, Tea01}

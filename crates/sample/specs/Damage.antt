@@ -1,5 +1,5 @@
 -- Ways in which a sector comes to harm.
-use Rattle.std.specs.Prelude.{ℕ, ◌-◌, List, [], ◌∷◌, take, bit_xor, slice_index, slice_set}
+use Rattle.std.specs.Prelude.{ℕ, List, take, bit_xor, slice_index, slice_set}
 use Rattle.octets.specs.Fields.{put, le16, le32}
 use Rattle.octets.specs.Tag.{tag_sum}
 

@@ -1,13 +1,11 @@
 -- What is written into a table is read back, row by row.
 -- Assumes nothing.
-use Rattle.std.proofs.Common.{◌≡◌, ℕ, ◌*◌, ◌^◌, ◌<◌, ◌≤◌, List, [], ◌∷◌, refl, arith}
+use Rattle.std.proofs.Common.{◌≡◌, ◌*◌, ◌^◌, ◌<◌, ◌≤◌, List, [], ◌∷◌, refl, arith}
 use Rattle.std.specs.List.{AllByRecursion}
 use Rattle.octets.proofs.Runs.{u16_back, u32_back}
 use Rattle.octets.proofs.Tables.{table_back}
-use Rattle.descriptor.specs.declared.kinds.Extent.{Extent}
 use Rattle.descriptor.specs.declared.kinds.FreePair.{FreePair}
 use Rattle.descriptor.specs.declared.kinds.Partition.{Partition}
-use Rattle.descriptor.specs.declared.kinds.PartitionMap.{PartitionMap}
 use Rattle.tables.specs.Read.{map_of, extent_of, size_of}
 use Rattle.tables.specs.Rows.{map_bytes, pair_bytes, size_bytes}
 use Rattle.tables.specs.Back.{MapsBack, ExtentsBack, SizesBack, map_to, extent_to}

@@ -1,5 +1,5 @@
 -- What the rows that are written are read back as.
-use Rattle.std.specs.Prelude.{◌≡◌, ℕ, ◌*◌, List, map}
+use Rattle.std.specs.Prelude.{◌≡◌, ◌*◌, List, map}
 use Rattle.std.specs.List.{flat_map}
 use Rattle.octets.specs.Rows.{whole_rows}
 use Rattle.descriptor.specs.Limits.{sector_bytes}

@@ -1,4 +1,3 @@
-use Rattle.std.proofs.Common.{arith}
 use Rattle.std.proofs.lemmas.Bool.{le-leb, lt-leb}
 use Rattle.octets.proofs.Scans.{every_stops, every_goes, every_ends}
 use Rattle.descriptor.specs.declared.kinds.FreePair.{FreePair}

@@ -1,4 +1,4 @@
-use Rattle.std.proofs.Common.{◌≡◌, ℕ, List, ◌++◌, length, drop, refl, ap, ◌∙◌, arith}
+use Rattle.std.proofs.Common.{◌≡◌, ℕ, List, ◌++◌, length, drop, ap, ◌∙◌, arith}
 use Rattle.octets.specs.Fields.{put, part}
 use Rattle.octets.specs.Crc.{crc}
 use Rattle.octets.proofs.Runs.{put_front}

@@ -1,6 +1,6 @@
-use Rattle.std.proofs.Common.{ℕ, eqb, take}
+use Rattle.std.proofs.Common.{eqb, take}
 use Rattle.std.proofs.lemmas.Bool.{eq-eqb, ne_eqb}
-use Rattle.octets.proofs.Scans.{every_stops, every_goes, every_ends}
+use Rattle.octets.proofs.Scans.{every_stops, every_goes}
 use Rattle.inspection.proofs.finding.is_blank.Goals as goal
 
 pub returns-then-byte-ne0 : goal.returns-then-byte-ne0

@@ -1,4 +1,4 @@
-use Rattle.std.proofs.Common.{◌≡◌, ap, ◌∙◌}
+use Rattle.std.proofs.Common.{ap, ◌∙◌}
 use Rattle.inspection.specs.Findings.{examined, first_place, next_place, at_last}
 use Rattle.inspection.proofs.finding.tried.Goals as goal
 

@@ -1,4 +1,4 @@
-use Rattle.std.proofs.Common.{◌≡◌, ℕ, List, [], ◌∷◌, ap, ◌∙◌}
+use Rattle.std.proofs.Common.{[], ◌∷◌, ap, ◌∙◌}
 use Rattle.octets.specs.Fields.{put, zeros}
 use Rattle.recognition.specs.Written.{named_bytes}
 use Rattle.recognition.proofs.written.named.Goals as goal

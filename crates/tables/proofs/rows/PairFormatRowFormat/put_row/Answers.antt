@@ -1,4 +1,4 @@
-use Rattle.std.proofs.Common.{◌≡◌, ℕ, ◌*◌, ◌%◌, ◌^◌, List, ap, ◌∙◌, arith}
+use Rattle.std.proofs.Common.{ℕ, ◌*◌, List, ap, ◌∙◌, arith}
 use Rattle.octets.specs.Fields.{put, le32}
 use Rattle.octets.proofs.Runs.{le32_low, saturated_put}
 use Rattle.tables.proofs.rows.PairFormatRowFormat.put_row.Goals as goal
