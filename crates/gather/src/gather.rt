@@ -27,10 +27,8 @@ impl<D: Device> Gather<D> {
         ensures pairs { pairs_of result.pairs ≡ [] }
         ensures cuts { CutsRise (pairs_of result.pairs) }
     {
-        Gather {
-            below,
-            pairs: Pairs::none(),
-        }
+        let pairs = Pairs::none();
+        Gather { below, pairs }
     }
 
     // One more pair. Once it is accepted, the layer has all sectors of its pairs, and every cut below is a cut of the layer.

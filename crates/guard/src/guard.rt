@@ -26,10 +26,8 @@ impl<D: Device> Guard<D> {
         ensures pairs { pairs_of result.pairs ≡ [] }
         ensures cuts { CutsRise (pairs_of result.pairs) }
     {
-        Guard {
-            below,
-            pairs: Pairs::none(),
-        }
+        let pairs = Pairs::none();
+        Guard { below, pairs }
     }
 
     // One more pair. Every cut below is a cut of the layer.

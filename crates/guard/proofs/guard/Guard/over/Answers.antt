@@ -4,4 +4,4 @@ use Rattle.guard.specs.Guarding.{cuts_rise}
 use Rattle.guard.proofs.guard.Guard.over.Goals as goal
 
 pub returns : goal.returns
-returns g c = record { below = refl; pairs = c.none.ensures; cuts = cuts_rise (pairs_of c.none.result) }
+returns g c = record { below = refl; pairs = c.none-pairs.ensures; cuts = cuts_rise (pairs_of c.none-pairs.result) }
