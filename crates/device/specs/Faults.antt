@@ -2,6 +2,7 @@
 use Rattle.std.specs.Prelude.{ℕ, ◌+◌, min, Ok, Err, Result}
 use Rattle.device.specs.declared.fault.Reason.{Reason}
 use Rattle.device.specs.declared.fault.Reason.TheVariants.{OffDevice, Unreadable, TakesNoWrites}
+use Rattle.device.specs.declared.fault.Layer.{Layer}
 use Rattle.device.specs.declared.fault.Origin.{Origin}
 use Rattle.device.specs.declared.fault.DeviceFault.{DeviceFault}
 
@@ -13,6 +14,10 @@ reason_number TakesNoWrites = 3
 
 abbrev pub number_of : DeviceFault → ℕ
 number_of f = reason_number f.reason
+
+-- a refusal that arises in a layer itself: no layer lies above it, and it numbers sectors as its caller does
+abbrev pub arising : Reason → Layer → ℕ → DeviceFault
+arising why layer s = record { reason = why; origin = record { layer = layer; depth = 0; sector = s } }
 
 -- where a device's refusals arise: for a reason and a sector asked for, the layer that refuses and its own sector
 abbrev pub Origins : Type 0

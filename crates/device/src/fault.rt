@@ -1,6 +1,6 @@
 // Why a device refuses, and where.
 ghost use Rattle.std.specs.Prelude.{◌≡◌};
-ghost use Rattle.device.specs.Faults.{number_of, passed_on, handed_up};
+ghost use Rattle.device.specs.Faults.{number_of, arising, passed_on, handed_up};
 
 // Why a read or a write is refused: there is no such sector, what it holds cannot be read, it takes no writes.
 #[derive(Clone, Copy, PartialEq, Eq, Debug)]
@@ -36,6 +36,18 @@ pub struct DeviceFault {
 }
 
 impl DeviceFault {
+    // A refusal that arises in a layer itself: no layer lies above it.
+    pub fn arising(reason: Reason, layer: Layer, sector: u32) -> DeviceFault
+        ensures { result ≡ arising reason layer sector }
+    {
+        let origin = Origin {
+            layer,
+            depth: 0,
+            sector,
+        };
+        DeviceFault { reason, origin }
+    }
+
     // The refusal's number.
     pub fn number(self) -> u8
         ensures { result ≡ number_of self }
@@ -52,14 +64,10 @@ impl DeviceFault {
         ensures { result ≡ passed_on self }
     {
         let origin = Origin {
-            layer: self.origin.layer,
             depth: self.origin.depth.saturating_add(1),
-            sector: self.origin.sector,
+            ..self.origin
         };
-        DeviceFault {
-            reason: self.reason,
-            origin,
-        }
+        DeviceFault { origin, ..self }
     }
 }
 
@@ -67,8 +75,5 @@ impl DeviceFault {
 pub fn hand_up(answer: Result<(), DeviceFault>) -> Result<(), DeviceFault>
     ensures { result ≡ handed_up answer }
 {
-    match answer {
-        Ok(()) => Ok(()),
-        Err(fault) => Err(fault.passed_on()),
-    }
+    answer.map_err(|fault| fault.passed_on())
 }
