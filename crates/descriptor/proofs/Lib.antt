@@ -1,4 +1,5 @@
 pub mod Lengths
+pub mod Naming
 pub mod Decoding
 pub mod Conditions
 pub mod Reading

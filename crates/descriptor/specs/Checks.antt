@@ -1,5 +1,6 @@
 -- The four checks of a sector, as tests: the tag, its location, the CRC, and whether the kind suits the place.
-use Rattle.std.specs.Prelude.{ℕ, zero, suc, ◌+◌, ◌*◌, ◌%◌, Bool, true, ◌&&◌, List, take, ◌==◌, nat_le}
+use Rattle.std.specs.Prelude.{ℕ, ◌+◌, ◌*◌, ◌%◌, Bool, ◌&&◌, List, take, ◌==◌, nat_le}
+use Rattle.std.specs.List.{list_all, range_with_len}
 use Rattle.octets.specs.Fields.{byte_at, u16_at, u32_at, part}
 use Rattle.octets.specs.Crc.{crc}
 use Rattle.octets.specs.Tag.{tag_sum}
@@ -28,8 +29,7 @@ logical_volume_fits bs = u32_at bs 212 == sector_bytes && (nat_le (u32_at bs 268
 
 -- the first n extents of unallocated space have lengths in whole sectors
 abbrev pub whole_lengths : List ℕ → ℕ → Bool
-whole_lengths bs zero = true
-whole_lengths bs (suc n) = u32_at bs (24 + 8 * n) % sector_bytes == 0 && whole_lengths bs n
+whole_lengths bs n = list_all (λ i. u32_at bs (24 + 8 * i) % sector_bytes == 0) (range_with_len 0 n)
 
 -- unallocated space: at most 16 extents, each of whole sectors
 abbrev pub unallocated_space_fits : List ℕ → Bool

@@ -1,4 +1,5 @@
 pub mod Limits
+pub mod Numbers
 pub mod Kinds
 pub mod Refusals
 pub mod Checks

@@ -1,6 +1,6 @@
 // The checks that a sector passes before its kind is looked at, and the limits of the kinds that have some.
 ghost use Rattle.std.specs.Prelude.{◌≡◌, ◌≤◌};
-ghost use Rattle.descriptor.specs.Checks.{sum_stands, tag_stands, location_stands, crc_stands, logical_volume_fits, whole_lengths, unallocated_space_fits, integrity_fits};
+ghost use Rattle.descriptor.specs.Checks.{sum_stands, tag_stands, location_stands, crc_stands, logical_volume_fits, whole_lengths, unallocated_space_fits};
 
 use crate::kinds::{BLOCK_BYTES, MOST_PAIRS, MOST_PARTITIONS, Sector};
 use octets::crc::crc_of;
@@ -59,12 +59,7 @@ fn lengths_whole(sector: &Sector, count: u32) -> bool
     requires { count ≤ 16 }
     ensures { result ≡ whole_lengths sector.now count }
 {
-    for row in 0..count {
-        if u32_at(sector, 24 + 8 * row as usize) % BLOCK_BYTES != 0 {
-            return false;
-        }
-    }
-    true
+    (0..count).all(|row| u32_at(sector, 24 + 8 * row as usize) % BLOCK_BYTES == 0)
 }
 
 // Check 4 of unallocated space: its count of extents, and their lengths.
@@ -73,11 +68,4 @@ pub(crate) fn unallocated_space_holds(sector: &Sector) -> bool
 {
     let extents = u32_at(sector, 20);
     extents <= MOST_PAIRS && lengths_whole(sector, extents)
-}
-
-// Check 4 of an integrity descriptor: its type and its count of partitions.
-pub(crate) fn integrity_holds(sector: &Sector) -> bool
-    ensures { result ≡ integrity_fits sector.now }
-{
-    u32_at(sector, 28) <= 1 && u32_at(sector, 72) <= MOST_PARTITIONS
 }

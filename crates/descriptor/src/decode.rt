@@ -1,18 +1,18 @@
 // A sector read as a descriptor.
 ghost use Rattle.std.specs.Prelude.{◌≡◌};
-ghost use Rattle.octets.specs.Fields.{u16_at};
+ghost use Rattle.octets.specs.Fields.{u16_at, u32_at};
 ghost use Rattle.descriptor.specs.Law.{Reading};
 ghost use Rattle.descriptor.specs.Kinds.{fields_of};
+ghost use Rattle.descriptor.specs.Numbers.{NamedBy, SaidBy};
+ghost use Rattle.descriptor.specs.declared.kinds.Place.TheVariants.{Anchor};
 ghost use Rattle.descriptor.specs.Decode.{extent_at, primary_in, anchor_in, implementation_use_in, partition_in, logical_volume_in, unallocated_space_in, terminating_in, integrity_in, if_so, found, sequence_kind, integrity_kind, kind_in, decoded, answer};
 ghost use Rattle.descriptor.specs.Checks.{logical_volume_fits, unallocated_space_fits, integrity_fits};
 
 use crate::checks::{
-    crc_holds, integrity_holds, location_holds, logical_volume_holds, tag_holds,
-    unallocated_space_holds,
+    crc_holds, location_holds, logical_volume_holds, tag_holds, unallocated_space_holds,
 };
 use crate::kinds::{
-    ANCHOR, Descriptor, Extent, IMPLEMENTATION_USE, INTEGRITY, Integrity, LOGICAL_VOLUME,
-    PARTITION, PRIMARY, Partition, Place, Sector, TERMINATING, UNALLOCATED_SPACE,
+    Descriptor, Extent, Integrity, Kind, MOST_PARTITIONS, Partition, Place, Sector,
 };
 use crate::refusal::Refusal;
 use octets::fields::{u16_at, u32_at};
@@ -114,19 +114,22 @@ fn terminating(sector: &Sector) -> Descriptor<'_>
     }
 }
 
+// What the integrity type says, if it says something.
+fn state_of(sector: &Sector) -> Option<Integrity>
+    ensures { SaidBy (u32_at sector.now 28) result }
+{
+    Integrity::try_from(u32_at(sector, 28)).ok()
+}
+
 fn integrity(sector: &Sector) -> Option<Descriptor<'_>>
     ensures { found result ≡ if_so (integrity_fits sector.now) (integrity_in sector.now) }
 {
-    if !integrity_holds(sector) {
+    let state = state_of(sector)?;
+    let partitions = u32_at(sector, 72);
+    if partitions > MOST_PARTITIONS {
         return None;
     }
-    let partitions = u32_at(sector, 72);
     let sizes_at = 80 + 4 * partitions as usize;
-    let state = if u32_at(sector, 28) == 1 {
-        Integrity::Closed
-    } else {
-        Integrity::Open
-    };
     Some(Descriptor::Integrity {
         serial: u16_at(sector, 6),
         recorded: &sector[16..28],
@@ -137,17 +140,24 @@ fn integrity(sector: &Sector) -> Option<Descriptor<'_>>
     })
 }
 
+// The kind that the tag names, if it is one of ours.
+fn kind_of(sector: &Sector) -> Option<Kind>
+    ensures { NamedBy (u16_at sector.now 0) result }
+{
+    Kind::try_from(u16_at(sector, 0)).ok()
+}
+
 // Check 4 in a sequence: the descriptor that the sector's kind is there.
 fn in_sequence(sector: &Sector) -> Option<Descriptor<'_>>
     ensures { found result ≡ sequence_kind (u16_at sector.now 0) sector.now }
 {
-    match u16_at(sector, 0) {
-        PRIMARY => Some(primary(sector)),
-        IMPLEMENTATION_USE => Some(implementation_use(sector)),
-        PARTITION => Some(partition(sector)),
-        LOGICAL_VOLUME => logical_volume(sector),
-        UNALLOCATED_SPACE => unallocated_space(sector),
-        TERMINATING => Some(terminating(sector)),
+    match kind_of(sector)? {
+        Kind::Primary => Some(primary(sector)),
+        Kind::ImplementationUse => Some(implementation_use(sector)),
+        Kind::Partition => Some(partition(sector)),
+        Kind::LogicalVolume => logical_volume(sector),
+        Kind::UnallocatedSpace => unallocated_space(sector),
+        Kind::Terminating => Some(terminating(sector)),
         _ => None,
     }
 }
@@ -156,20 +166,29 @@ fn in_sequence(sector: &Sector) -> Option<Descriptor<'_>>
 fn in_integrity_extent(sector: &Sector) -> Option<Descriptor<'_>>
     ensures { found result ≡ integrity_kind (u16_at sector.now 0) sector.now }
 {
-    match u16_at(sector, 0) {
-        TERMINATING => Some(terminating(sector)),
-        INTEGRITY => integrity(sector),
+    match kind_of(sector)? {
+        Kind::Terminating => Some(terminating(sector)),
+        Kind::Integrity => integrity(sector),
+        _ => None,
+    }
+}
+
+// Check 4 at an anchor's place.
+fn at_anchor(sector: &Sector) -> Option<Descriptor<'_>>
+    ensures { found result ≡ kind_in Anchor sector.now }
+{
+    match kind_of(sector)? {
+        Kind::Anchor => Some(anchor(sector)),
         _ => None,
     }
 }
 
 // Check 4: the descriptor that the sector's kind is in its place.
-fn kind(sector: &Sector, place: Place) -> Option<Descriptor<'_>>
+fn in_place(sector: &Sector, place: Place) -> Option<Descriptor<'_>>
     ensures { found result ≡ kind_in place sector.now }
 {
     match place {
-        Place::Anchor if u16_at(sector, 0) == ANCHOR => Some(anchor(sector)),
-        Place::Anchor => None,
+        Place::Anchor => at_anchor(sector),
         Place::Sequence => in_sequence(sector),
         Place::IntegrityExtent => in_integrity_extent(sector),
     }
@@ -188,10 +207,7 @@ fn checked(sector: &Sector, number: u32, place: Place) -> Result<Descriptor<'_>,
     if !crc_holds(sector) {
         return Err(Refusal::Crc);
     }
-    match kind(sector, place) {
-        Some(descriptor) => Ok(descriptor),
-        None => Err(Refusal::Kind),
-    }
+    in_place(sector, place).ok_or(Refusal::Kind)
 }
 
 // The sector with this number, read in its place: what it holds, or the check that it fails first.

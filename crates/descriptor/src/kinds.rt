@@ -1,4 +1,6 @@
 // The kinds of descriptor, and what each holds.
+ghost use Rattle.std.specs.Prelude.{◌≡◌};
+ghost use Rattle.descriptor.specs.Numbers.{kind_number, KindNumbered, state_number, StateNumbered};
 
 // The bytes of a sector, and of a logical block.
 pub const SECTOR_BYTES: usize = 2048;
@@ -24,22 +26,50 @@ pub const MOST_PARTITIONS: u32 = 8;
 // The most extents of unallocated space that a volume lists here.
 pub const MOST_PAIRS: u32 = 16;
 
-// The number of each kind, as a tag has it.
-pub const PRIMARY: u16 = 1;
+// The kind of a descriptor, with its number, as a tag has it.
+#[derive(Clone, Copy, PartialEq, Eq, Debug)]
+pub enum Kind {
+    Primary = 1,
+    Anchor = 2,
+    ImplementationUse = 4,
+    Partition = 5,
+    LogicalVolume = 6,
+    UnallocatedSpace = 7,
+    Terminating = 8,
+    Integrity = 9,
+}
 
-pub const ANCHOR: u16 = 2;
+impl From<Kind> for u16 {
+    ghost from_gives = { λ kind n. n ≡ kind_number kind };
 
-pub const IMPLEMENTATION_USE: u16 = 4;
+    fn from(kind: Kind) -> u16 {
+        kind as u16
+    }
+}
 
-pub const PARTITION: u16 = 5;
+// A number that no kind has.
+#[derive(Clone, Copy, PartialEq, Eq, Debug)]
+pub struct UnknownKind(pub u16);
 
-pub const LOGICAL_VOLUME: u16 = 6;
+impl TryFrom<u16> for Kind {
+    type Error = UnknownKind;
 
-pub const UNALLOCATED_SPACE: u16 = 7;
+    ghost try_from_gives = { KindNumbered };
 
-pub const TERMINATING: u16 = 8;
-
-pub const INTEGRITY: u16 = 9;
+    fn try_from(number: u16) -> Result<Kind, UnknownKind> {
+        match number {
+            1 => Ok(Kind::Primary),
+            2 => Ok(Kind::Anchor),
+            4 => Ok(Kind::ImplementationUse),
+            5 => Ok(Kind::Partition),
+            6 => Ok(Kind::LogicalVolume),
+            7 => Ok(Kind::UnallocatedSpace),
+            8 => Ok(Kind::Terminating),
+            9 => Ok(Kind::Integrity),
+            _ => Err(UnknownKind(number)),
+        }
+    }
+}
 
 // Where a sector stands: at an anchor's place, in a volume descriptor sequence, or in the integrity extent.
 #[derive(Clone, Copy)]
@@ -81,11 +111,37 @@ pub struct PartitionMap {
     pub number: u16,
 }
 
-// What the last integrity descriptor says of a logical volume.
-#[derive(Clone, Copy)]
+// What the last integrity descriptor says of a logical volume, with its number.
+#[derive(Clone, Copy, PartialEq, Eq, Debug)]
 pub enum Integrity {
-    Open,
-    Closed,
+    Open = 0,
+    Closed = 1,
+}
+
+impl From<Integrity> for u32 {
+    ghost from_gives = { λ state n. n ≡ state_number state };
+
+    fn from(state: Integrity) -> u32 {
+        state as u32
+    }
+}
+
+// A number that says neither open nor closed.
+#[derive(Clone, Copy, PartialEq, Eq, Debug)]
+pub struct UnknownIntegrity(pub u32);
+
+impl TryFrom<u32> for Integrity {
+    type Error = UnknownIntegrity;
+
+    ghost try_from_gives = { StateNumbered };
+
+    fn try_from(number: u32) -> Result<Integrity, UnknownIntegrity> {
+        match number {
+            0 => Ok(Integrity::Open),
+            1 => Ok(Integrity::Closed),
+            _ => Err(UnknownIntegrity(number)),
+        }
+    }
 }
 
 // What a sector holds that passed the checks. Identifiers, dates and tables are parts of the sector itself.

@@ -2,13 +2,13 @@
 ghost use Rattle.std.specs.Prelude.{◌≡◌};
 ghost use Rattle.descriptor.specs.Refusals.{number_of};
 
-// The check that failed first.
-#[derive(Clone, Copy)]
+// The check that failed first, with the refusal's number.
+#[derive(Clone, Copy, PartialEq, Eq, Debug)]
 pub enum Refusal {
-    Tag,
-    Location,
-    Crc,
-    Kind,
+    Tag = 10,
+    Location = 11,
+    Crc = 12,
+    Kind = 13,
 }
 
 impl Refusal {
@@ -16,11 +16,6 @@ impl Refusal {
     pub fn number(self) -> u8
         ensures { result ≡ number_of self }
     {
-        match self {
-            Refusal::Tag => 10,
-            Refusal::Location => 11,
-            Refusal::Crc => 12,
-            Refusal::Kind => 13,
-        }
+        self as u8
     }
 }

@@ -7,7 +7,7 @@ use Rattle.std.proofs.lemmas.List.{length-append, append_assoc, drop-drop, drop-
 use Rattle.std.proofs.lemmas.Bool.{eq-eqb, le-leb, leb-true, and_from, cond-true}
 use Rattle.octets.specs.Fields.{put, over, zeros, exactly, u32_at, part}
 use Rattle.octets.proofs.Runs.{u16_back, u32_back, exactly_whole, over_front, take-over, u32_drop, length-zeros}
-use Rattle.octets.proofs.Scans.{every_decides}
+use Rattle.octets.proofs.Scans.{all_decides}
 use Rattle.octets.proofs.Tables.{length-joined, row_stands}
 use Rattle.descriptor.specs.declared.kinds.Extent.{Extent}
 use Rattle.descriptor.specs.declared.kinds.FreePair.{FreePair}
@@ -23,7 +23,8 @@ use Rattle.encode.specs.declared.seal.Stamp.{Stamp}
 use Rattle.encode.specs.Limits.{short, all_short}
 use Rattle.encode.specs.Sealed.{sealed, tag}
 use Rattle.tables.specs.Rows.{map_bytes, pair_bytes, size_bytes, free_bytes}
-use Rattle.encode.specs.Written.{type_of, logical_volume_bytes, unallocated_space_bytes, integrity_bytes}
+use Rattle.descriptor.specs.Numbers.{state_number}
+use Rattle.encode.specs.Written.{logical_volume_bytes, unallocated_space_bytes, integrity_bytes}
 use Rattle.encode.specs.ReadBack.{ReadsAs, logical_volume_fields, unallocated_space_fields, integrity_fields}
 use Rattle.encode.proofs.Passes.{passes}
 use Rattle.encode.proofs.RoundTrip.{StampFits, ExtentFits, again16, again32, again_extent, extent_again}
@@ -83,7 +84,7 @@ module _ (stamp : Stamp) (q : ℕ) (id : List ℕ) (ps : List Partition) (e : Ex
 
 -- unallocated space
 pub short_decides : (free : List FreePair) → Decides (all_short free) (AllByRecursion (λ f. f.count ≤ 524287) free)
-short_decides free = every_decides short (λ f. f.count ≤ 524287) (λ f. (leb-true f.count 524287, le-leb f.count 524287)) free
+short_decides free = all_decides short (λ f. f.count ≤ 524287) (λ f. (leb-true f.count 524287, le-leb f.count 524287)) free
 
 module _ (stamp : Stamp) (q : ℕ) (free : List FreePair) where
   space_kind :
@@ -181,16 +182,16 @@ module _ (stamp : Stamp) (d : List ℕ) (state : Integrity) (ps : List Partition
   unfolding integrity_bytes sealed tag put over zeros exactly
   tables_stand = refl
 
-  state_again : again32 (type_of state) ≡ type_of state
-  state_again = u32_back (type_of state) (type_fits state)
+  state_again : again32 (state_number state) ≡ state_number state
+  state_again = u32_back (state_number state) (type_fits state)
     where
-      type_fits : (s : Integrity) → type_of s < 2 ^ 32
+      type_fits : (s : Integrity) → state_number s < 2 ^ 32
       type_fits = elim [ Open ↦ omega arith | Closed ↦ omega arith ]
 
-  type_small : type_of state ≤ 1
+  type_small : state_number state ≤ 1
   type_small = small state
     where
-      small : (s : Integrity) → type_of s ≤ 1
+      small : (s : Integrity) → state_number s ≤ 1
       small = elim [ Open ↦ omega arith | Closed ↦ omega arith ]
 
   integrity_fits_is : length ps ≤ 8 → integrity_fits (integrity_bytes stamp d state ps) ≡ true
@@ -199,13 +200,13 @@ module _ (stamp : Stamp) (d : List ℕ) (state : Integrity) (ps : List Partition
       let n : again32 (length ps) ≡ length ps = u32_back (length ps) (omega arith) in
       let t = state_again in
       let s = type_small in
-      and_from (leb (again32 (type_of state)) 1) (leb (again32 (length ps)) 8) (le-leb _ _ (omega arith)) (le-leb _ _ (omega arith))
+      and_from (leb (again32 (state_number state)) 1) (leb (again32 (length ps)) 8) (le-leb _ _ (omega arith)) (le-leb _ _ (omega arith))
 
   abbrev integrity_read : Fields
   integrity_read = integrity (record {
     serial = again16 stamp.serial;
     recorded = exactly 12 d;
-    state = state_of (again32 (type_of state));
+    state = state_of (again32 (state_number state));
     next = record { length = 0; location = 0 };
     partitions = again32 (length ps);
     sizes = part (integrity_bytes stamp d state ps) (80 + 4 * again32 (length ps)) (4 * again32 (length ps));
@@ -215,10 +216,10 @@ module _ (stamp : Stamp) (d : List ℕ) (state : Integrity) (ps : List Partition
   unfolding integrity_bytes sealed tag put over zeros exactly
   integrity_parts = refl
 
-  state_same : state_of (again32 (type_of state)) ≡ state
+  state_same : state_of (again32 (state_number state)) ≡ state
   state_same = ap state_of state_again ∙ named state
     where
-      named : (s : Integrity) → state_of (type_of s) ≡ s
+      named : (s : Integrity) → state_of (state_number s) ≡ s
       named = elim [ Open ↦ refl | Closed ↦ refl ]
 
   sizes_stand : length ps ≤ 8 → (n : ℕ) → n ≡ length ps → part (integrity_bytes stamp d state ps) (80 + 4 * n) (4 * n) ≡ flat_map size_bytes ps

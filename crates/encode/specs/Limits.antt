@@ -1,6 +1,6 @@
 -- The limits of what is written, and the number of their refusal.
 use Rattle.std.specs.Prelude.{ℕ, Bool, cond, List, length, Ok, Err, Result, nat_le}
-use Rattle.octets.specs.Every.{every}
+use Rattle.std.specs.List.{list_all}
 use Rattle.descriptor.specs.Limits.{most_partitions, most_pairs}
 use Rattle.descriptor.specs.declared.kinds.FreePair.{FreePair}
 use Rattle.descriptor.specs.declared.kinds.Partition.{Partition}
@@ -21,7 +21,7 @@ abbrev pub short : FreePair → Bool
 short pair = nat_le pair.count most_pair_sectors
 
 abbrev pub all_short : List FreePair → Bool
-all_short free = every short free
+all_short free = list_all short free
 
 -- a sector with a row for each partition is written for at most 8 of them
 abbrev pub within_partitions : List Partition → List ℕ → Result (List ℕ) OffLimits

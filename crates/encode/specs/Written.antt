@@ -6,8 +6,8 @@ use Rattle.descriptor.specs.Limits.{sector_bytes}
 use Rattle.descriptor.specs.declared.kinds.Extent.{Extent}
 use Rattle.descriptor.specs.declared.kinds.FreePair.{FreePair}
 use Rattle.descriptor.specs.declared.kinds.Integrity.{Integrity}
-use Rattle.descriptor.specs.declared.kinds.Integrity.TheVariants.{Open, Closed}
 use Rattle.descriptor.specs.declared.kinds.Partition.{Partition}
+use Rattle.descriptor.specs.Numbers.{state_number}
 use Rattle.tables.specs.Rows.{map_bytes, pair_bytes, free_bytes, size_bytes}
 use Rattle.encode.specs.declared.seal.Stamp.{Stamp}
 use Rattle.encode.specs.Sealed.{sealed}
@@ -85,17 +85,12 @@ unallocated_space_bytes stamp sequence free = sealed 7 stamp (unallocated_space_
 unfoldable pub terminating_bytes : Stamp → List ℕ
 terminating_bytes stamp = sealed 8 stamp (zeros sector_bytes)
 
--- an integrity descriptor's type
-abbrev pub type_of : Integrity → ℕ
-type_of Open = 0
-type_of Closed = 1
-
 -- Logical Volume Integrity Descriptor: recording date, type, count of partitions, free space table, size table
 abbrev pub integrity_body : (recorded : List ℕ) → Integrity → List Partition → List ℕ
 integrity_body recorded state partitions =
     laid (
     (16, exactly 12 recorded)
-    ∷ (28, le32 (type_of state))
+    ∷ (28, le32 (state_number state))
     ∷ (72, le32 (length partitions))
     ∷ (80, flat_map free_bytes partitions ++ flat_map size_bytes partitions)
     ∷ []

@@ -7,8 +7,7 @@ ghost use Rattle.descriptor.specs.Kinds.{terminating as terminating_fields};
 
 use crate::seal::{Stamp, blank, seal};
 use descriptor::kinds::{
-    ANCHOR, Extent, PARTITION, PRIMARY, Partition, Sector, SetIdentifier, TERMINATING, Timestamp,
-    VolumeIdentifier,
+    Extent, Kind, Partition, Sector, SetIdentifier, Timestamp, VolumeIdentifier,
 };
 use octets::fields::{put_bytes, put_u16, put_u32};
 
@@ -33,7 +32,7 @@ pub fn primary(
     put_bytes(&mut sector, 72, volume_set);
     put_bytes(&mut sector, 376, recorded);
     put_u16(&mut sector, 488, 1);
-    seal(&mut sector, PRIMARY, stamp);
+    seal(&mut sector, Kind::Primary, stamp);
     sector
 }
 
@@ -47,7 +46,7 @@ pub fn anchor(stamp: Stamp, main: Extent, reserve: Extent) -> Sector
     put_u32(&mut sector, 20, main.location);
     put_u32(&mut sector, 24, reserve.length);
     put_u32(&mut sector, 28, reserve.location);
-    seal(&mut sector, ANCHOR, stamp);
+    seal(&mut sector, Kind::Anchor, stamp);
     sector
 }
 
@@ -63,7 +62,7 @@ pub fn partition(stamp: Stamp, sequence: u32, partition: Partition) -> Sector
     put_u32(&mut sector, 184, partition.access);
     put_u32(&mut sector, 188, partition.first);
     put_u32(&mut sector, 192, partition.count);
-    seal(&mut sector, PARTITION, stamp);
+    seal(&mut sector, Kind::Partition, stamp);
     sector
 }
 
@@ -73,6 +72,6 @@ pub fn terminating(stamp: Stamp) -> Sector
     ensures read_back { ReadsAs result stamp Sequence (terminating_fields stamp.serial) }
 {
     let mut sector = blank();
-    seal(&mut sector, TERMINATING, stamp);
+    seal(&mut sector, Kind::Terminating, stamp);
     sector
 }

@@ -32,10 +32,5 @@ impl OffLimits {
 pub(crate) fn lengths_fit(free: &[FreePair]) -> bool
     ensures { result ≡ all_short free.now }
 {
-    for pair in free {
-        if pair.count > MOST_PAIR_SECTORS {
-            return false;
-        }
-    }
-    true
+    free.iter().all(|pair| pair.count <= MOST_PAIR_SECTORS)
 }

@@ -1,9 +1,10 @@
 // A descriptor's tag.
 ghost use Rattle.std.specs.Prelude.{◌≡◌};
 ghost use Rattle.octets.specs.Fields.{zeros};
+ghost use Rattle.descriptor.specs.Numbers.{kind_number};
 ghost use Rattle.encode.specs.Sealed.{tag, sealed};
 
-use descriptor::kinds::Sector;
+use descriptor::kinds::{Kind, SECTOR_BYTES, Sector};
 use octets::crc::crc_of;
 use octets::fields::{put_bytes, put_u16, put_u32};
 use octets::tag::sum_of;
@@ -26,15 +27,15 @@ pub struct Stamp {
 pub(crate) fn blank() -> Sector
     ensures { result ≡ zeros 2048 }
 {
-    [0; 2048]
+    [0; SECTOR_BYTES]
 }
 
 // The tag of a descriptor.
-fn tag_of(kind: u16, stamp: Stamp, crc: u16) -> [u8; 16]
-    ensures { result ≡ tag kind stamp crc }
+fn tag_of(kind: Kind, stamp: Stamp, crc: u16) -> [u8; 16]
+    ensures { result ≡ tag (kind_number kind) stamp crc }
 {
     let mut tag = [0u8; 16];
-    put_u16(&mut tag, 0, kind);
+    put_u16(&mut tag, 0, kind.into());
     put_u16(&mut tag, 2, VERSION);
     put_u16(&mut tag, 6, stamp.serial);
     put_u16(&mut tag, 8, crc);
@@ -45,8 +46,8 @@ fn tag_of(kind: u16, stamp: Stamp, crc: u16) -> [u8; 16]
 }
 
 // Puts the tag on a sector whose other bytes stand.
-pub(crate) fn seal(sector: &mut Sector, kind: u16, stamp: Stamp)
-    ensures { sector.new ≡ sealed kind stamp sector.old }
+pub(crate) fn seal(sector: &mut Sector, kind: Kind, stamp: Stamp)
+    ensures { sector.new ≡ sealed (kind_number kind) stamp sector.old }
 {
     let crc = crc_of(&sector[16..512]);
     let tag = tag_of(kind, stamp, crc);

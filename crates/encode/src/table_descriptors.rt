@@ -4,13 +4,13 @@ ghost use Rattle.descriptor.specs.declared.kinds.Place.TheVariants.{Sequence, In
 ghost use Rattle.encode.specs.Limits.{within_partitions, within_pairs};
 ghost use Rattle.tables.specs.Back.{MapsBack, ExtentsBack, SizesBack};
 ghost use Rattle.encode.specs.ReadBack.{ReadsAs, logical_volume_fields, unallocated_space_fields, integrity_fields};
-ghost use Rattle.encode.specs.Written.{logical_volume_bytes, unallocated_space_bytes, integrity_bytes, type_of};
+ghost use Rattle.encode.specs.Written.{logical_volume_bytes, unallocated_space_bytes, integrity_bytes};
 
 use crate::limits::{OffLimits, lengths_fit};
 use crate::seal::{Stamp, blank, seal};
 use descriptor::kinds::{
-    BLOCK_BYTES, Extent, FreePair, INTEGRITY, Integrity, LOGICAL_VOLUME, MOST_PAIRS,
-    MOST_PARTITIONS, Partition, Sector, SetIdentifier, Timestamp, UNALLOCATED_SPACE,
+    BLOCK_BYTES, Extent, FreePair, Integrity, Kind, MOST_PAIRS, MOST_PARTITIONS, Partition, Sector,
+    SetIdentifier, Timestamp,
 };
 use octets::fields::{put_bytes, put_u32};
 use octets::rows::put_rows;
@@ -40,7 +40,7 @@ pub fn logical_volume(
     put_u32(&mut sector, 432, integrity.length);
     put_u32(&mut sector, 436, integrity.location);
     put_rows::<MapFormat>(&mut sector, 440, partitions);
-    seal(&mut sector, LOGICAL_VOLUME, stamp);
+    seal(&mut sector, Kind::LogicalVolume, stamp);
     Ok(sector)
 }
 
@@ -63,18 +63,8 @@ pub fn unallocated_space(
     put_u32(&mut sector, 16, sequence);
     put_u32(&mut sector, 20, free.len() as u32);
     put_rows::<PairFormat>(&mut sector, 24, free);
-    seal(&mut sector, UNALLOCATED_SPACE, stamp);
+    seal(&mut sector, Kind::UnallocatedSpace, stamp);
     Ok(sector)
-}
-
-// The type of an integrity descriptor, by what it says.
-fn integrity_type(state: Integrity) -> u32
-    ensures { result ≡ type_of state }
-{
-    match state {
-        Integrity::Open => 0,
-        Integrity::Closed => 1,
-    }
 }
 
 // The Logical Volume Integrity Descriptor, open or closed, with the size of each partition.
@@ -92,10 +82,10 @@ pub fn integrity(
     }
     let mut sector = blank();
     put_bytes(&mut sector, 16, recorded);
-    put_u32(&mut sector, 28, integrity_type(state));
+    put_u32(&mut sector, 28, state.into());
     put_u32(&mut sector, 72, partitions.len() as u32);
     let sizes_at = put_rows::<FreeFormat>(&mut sector, 80, partitions);
     put_rows::<SizeFormat>(&mut sector, sizes_at, partitions);
-    seal(&mut sector, INTEGRITY, stamp);
+    seal(&mut sector, Kind::Integrity, stamp);
     Ok(sector)
 }

@@ -1,7 +1,7 @@
 -- Laws of runs of bytes: what is put, read back, and how a run is put byte by byte.
 -- Assumes nothing.
-use Rattle.std.proofs.Common.{◌≡◌, ℕ, zero, suc, ◌+◌, ◌-◌, ◌*◌, ◌/◌, ◌%◌, ◌^◌, ◌<◌, ◌≤◌, min, List, [], ◌∷◌, ◌++◌, length, get_or, take, drop, set, sym, refl, ap, ◌∙◌, ⊎_elim, le_of_suc-le-suc, not-suc-le-zero, add_assoc, suc-add, zero-add, add-one, arith}
-use Rattle.std.proofs.lemmas.List.{get_or_past, get_or-drop, set_past, take_at, length-replicate}
+use Rattle.std.proofs.Common.{◌≡◌, ℕ, zero, suc, ◌+◌, ◌-◌, ◌*◌, ◌/◌, ◌%◌, ◌^◌, ◌<◌, ◌≤◌, min, List, [], ◌∷◌, ◌++◌, length, get_or, take, drop, sym, refl, ap, ap₂, ◌∙◌, ⊎_elim, le_of_suc-le-suc, not-suc-le-zero, add_assoc, suc-add, zero-add, add-one, arith}
+use Rattle.std.proofs.lemmas.List.{get_or_past, get_or-drop, take_at, take_all, drop_all, length-drop, length-replicate}
 use Rattle.std.proofs.lemmas.Nat.{shr-shr, field_of, mod-pow-add, mod_low, mod_below, pow_pos}
 use Rattle.std.proofs.lemmas.Bool.{cases_lt}
 use Rattle.octets.specs.Fields.{over, put, Puts, zeros, exactly, le32, u16_at, u32_at}
@@ -12,26 +12,6 @@ unfolding put over
 put_none zero bs = refl
 put_none (suc at) [] = refl
 put_none (suc at) (b ∷ bs) = ap (λ (l : List ℕ). b ∷ l) (put_none at bs)
-
--- a run put is a run without its last byte put, and then that byte
-over_more : (xs bs : List ℕ) (i : ℕ) → i < length xs → over (take (suc i) xs) bs ≡ set (over (take i xs) bs) i (get_or xs i 0)
-unfolding over
-over_more [] bs i h = absurd (not-suc-le-zero h)
-over_more (x ∷ xs) [] zero h = refl
-over_more (x ∷ xs) [] (suc i) h = refl
-over_more (x ∷ xs) (b ∷ bs) zero h = refl
-over_more (x ∷ xs) (b ∷ bs) (suc i) h = ap (λ (l : List ℕ). x ∷ l) (over_more xs bs i (le_of_suc-le-suc h))
-
-put_suc : (at : ℕ) (xs bs : List ℕ) (i : ℕ) → i < length xs → put at (take (suc i) xs) bs ≡ set (put at (take i xs) bs) (at + i) (get_or xs i 0)
-unfolding put over
-put_suc zero xs bs i h = over_more xs bs i h ∙ ap (λ (k : ℕ). set (over (take i xs) bs) k (get_or xs i 0)) (sym (zero-add i))
-put_suc (suc at) xs [] i h = refl
-put_suc (suc at) xs (b ∷ bs) i h =
-    ap (λ (l : List ℕ). b ∷ l) (put_suc at xs bs i h)
-    ∙ ap (λ (k : ℕ). set (b ∷ put at (take i xs) bs) k (get_or xs i 0)) (sym (suc-add at i))
-
-pub put_more : (at : ℕ) (xs bs : List ℕ) (i : ℕ) → i < length xs → put at (take (i + 1) xs) bs ≡ set (put at (take i xs) bs) (at + i) (get_or xs i 0)
-put_more at xs bs i h = ap (λ (k : ℕ). put at (take k xs) bs) (add-one i) ∙ put_suc at xs bs i h
 
 -- a run put at the front stands there, and the rest follows
 pub over_front : (xs bs : List ℕ) → length xs ≤ length bs → over xs bs ≡ xs ++ drop (length xs) bs
@@ -96,6 +76,36 @@ put_past zero xs (b ∷ bs) h = absurd (not-suc-le-zero h)
 put_past (suc at) xs [] h = refl
 put_past (suc at) xs (b ∷ bs) h = ap (λ (l : List ℕ). b ∷ l) (put_past at xs bs (le_of_suc-le-suc h))
 
+-- what is put is as much of the run as there is room for, between what stands before it and behind it
+over_parts : (xs bs : List ℕ) → over xs bs ≡ take (length bs) xs ++ drop (length xs) bs
+unfolding over
+over_parts [] [] = refl
+over_parts [] (b ∷ bs) = refl
+over_parts (x ∷ xs) [] = refl
+over_parts (x ∷ xs) (b ∷ bs) = ap (λ (l : List ℕ). x ∷ l) (over_parts xs bs)
+
+put_parts : (at : ℕ) (xs bs : List ℕ) → put at xs bs ≡ take at bs ++ over xs (drop at bs)
+unfolding put over
+put_parts zero xs bs = refl
+put_parts (suc at) xs [] = sym (over_nothing xs)
+put_parts (suc at) xs (b ∷ bs) = ap (λ (l : List ℕ). b ∷ l) (put_parts at xs bs)
+
+pub put_room : (at n : ℕ) (xs bs : List ℕ) → at ≤ length bs → n ≡ min (length xs) (length bs - at) → take at bs ++ (take n xs ++ drop n (drop at bs)) ≡ put at xs bs
+put_room at n xs bs inside e = sym (put_parts at xs bs ∙ ap (λ (l : List ℕ). take at bs ++ l) (over_parts xs (drop at bs) ∙ ⊎_elim fits fills (cases_lt (length xs) (length bs - at))))
+  where
+    room : length (drop at bs) ≡ length bs - at
+    room = length-drop at bs
+
+    fits : length xs < length bs - at → take (length (drop at bs)) xs ++ drop (length xs) (drop at bs) ≡ take n xs ++ drop n (drop at bs)
+    fits h =
+        let same : n ≡ length xs = omega arith in
+        ap₂ (λ (k l : List ℕ). k ++ l) (take_all (length (drop at bs)) xs (omega (arith, room)) ∙ sym (take_all n xs (omega arith))) (ap (λ (k : ℕ). drop k (drop at bs)) (sym same))
+
+    fills : length bs - at ≤ length xs → take (length (drop at bs)) xs ++ drop (length xs) (drop at bs) ≡ take n xs ++ drop n (drop at bs)
+    fills h =
+        let same : length (drop at bs) ≡ n = omega (arith, room) in
+        ap₂ (λ (k l : List ℕ). k ++ l) (ap (λ (k : ℕ). take k xs) same) (drop_all (length xs) (drop at bs) (omega (arith, room)) ∙ sym (drop_all n (drop at bs) (omega (arith, room))))
+
 -- the same at an offset that stopped at the largest number
 pub saturated_put : (at end : ℕ) (xs ys bs : List ℕ) → length bs < 2 ^ 64 → end ≡ min (at + length xs) (2 ^ 64 - 1) → put end ys (put at xs bs) ≡ put at (xs ++ ys) bs
 saturated_put at end xs ys bs short e = ⊎_elim inside past (cases_lt (at + length xs) (2 ^ 64))
@@ -139,10 +149,6 @@ u16_past bs k h = let a = get_or_past bs k 0 h in let b = get_or_past bs (k + 1)
 
 pub u32_past : (bs : List ℕ) (k : ℕ) → length bs ≤ k → u32_at bs k ≡ 0
 u32_past bs k h = let a = u16_past bs k h in let b = u16_past bs (k + 2) (omega arith) in omega arith
-
--- a byte put where the run has none changes nothing
-pub saturated_set : (bs : List ℕ) (a b x : ℕ) → length bs < 2 ^ 64 → b ≡ min a (2 ^ 64 - 1) → length bs ≤ b → set bs a x ≡ bs
-saturated_set bs a b x short e h = set_past bs a x (omega arith)
 
 -- a number's bytes give the number back
 pub u16_back : (v : ℕ) → v < 2 ^ 16 → v % 256 + 256 * (v / 256 % 256) ≡ v

@@ -1,7 +1,7 @@
 -- A loop that looks at each element and stops at the first that fails: what is left of the list gives the answer.
 -- Assumes nothing.
 use Rattle.std.proofs.Common.{◌≡◌, ℕ, ◌+◌, ◌<◌, ◌≤◌, Bool, true, false, ◌&&◌, List, length, get_or, drop, Decides, sym, refl, ap, ◌∙◌}
-use Rattle.std.specs.List.{AllByRecursion}
+use Rattle.std.specs.List.{AllByRecursion, list_all}
 use Rattle.std.proofs.lemmas.List.{at_drop_more, at_drop_all}
 use Rattle.std.proofs.ByRecursion.{Decides-by_and}
 use Rattle.octets.specs.Every.{every}
@@ -24,5 +24,8 @@ module _ {A : Type 0} (p : A → Bool) (xs : List A) (i : ℕ) (d : A) where
   every_ends h inv = sym (at_drop_all (every p) xs i h) ∙ inv
 
 -- what the test says
+pub all_decides : {A : Type 0} (p : A → Bool) (P : A → Type 0) → ((x : A) → Decides (p x) (P x)) → (xs : List A) → Decides (list_all p xs) (AllByRecursion P xs)
+all_decides p P each xs = Decides-by_and p P (list_all p) each refl (λ _ _. refl) xs
+
 pub every_decides : {A : Type 0} (p : A → Bool) (P : A → Type 0) → ((x : A) → Decides (p x) (P x)) → (xs : List A) → Decides (every p xs) (AllByRecursion P xs)
-every_decides p P each xs = Decides-by_and p P (every p) each refl (λ _ _. refl) xs
+every_decides p P each xs = all_decides p P each xs

@@ -36,11 +36,9 @@ fn absorb(register: u16, byte: u8) -> u16
 fn fold(bytes: &[u8]) -> u16
     ensures { result ≡ crc bytes.now }
 {
-    let mut register = 0;
-    for byte in bytes {
-        register = absorb(register, *byte);
-    }
-    register
+    bytes
+        .iter()
+        .fold(0, |register, byte| absorb(register, *byte))
 }
 
 // The CRC of a run of bytes.

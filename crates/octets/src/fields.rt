@@ -28,15 +28,13 @@ pub fn u32_at(bytes: &[u8], at: usize) -> u32
     u32::from(low) + 65_536 * u32::from(high)
 }
 
-// Byte after byte.
+// The part of the run that the area has room for.
 fn copy_in(area: &mut [u8], at: usize, run: &[u8])
     ensures { area.new ≡ put at run.now area.old }
 {
-    for (i, byte) in run.iter().enumerate() {
-        let place = at.saturating_add(i);
-        if place < area.len() {
-            area[place] = *byte;
-        }
+    if at < area.len() {
+        let count = run.len().min(area.len() - at);
+        area[at..at + count].copy_from_slice(&run[..count]);
     }
 }
 

@@ -1,18 +1,32 @@
 // A sector as a volume structure descriptor, of which the volume recognition sequence is made.
 ghost use Rattle.std.specs.Prelude.{◌≡◌};
 ghost use Rattle.recognition.specs.Law.{Recognition};
-ghost use Rattle.recognition.specs.Structure.{structure_in};
+ghost use Rattle.recognition.specs.Structure.{code_of, structure_in};
 
 use descriptor::kinds::Sector;
 use octets::fields::byte_at;
 
 // The standard that a volume structure descriptor names.
-#[derive(Clone, Copy)]
+#[derive(Clone, Copy, PartialEq, Eq, Debug)]
 pub enum Structure {
     Bea01,
     Boot2,
     Nsr03,
     Tea01,
+}
+
+impl Structure {
+    // The identifier by which a sector names the standard.
+    pub fn identifier(self) -> &'static [u8; 5]
+        ensures { result.now ≡ code_of self }
+    {
+        match self {
+            Structure::Bea01 => b"BEA01",
+            Structure::Boot2 => b"BOOT2",
+            Structure::Nsr03 => b"NSR03",
+            Structure::Tea01 => b"TEA01",
+        }
+    }
 }
 
 // The type, the version and the identifier, in turn.

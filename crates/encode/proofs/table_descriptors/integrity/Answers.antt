@@ -21,7 +21,7 @@ bytes c =
     ∙ (ap (put c.put_rows-sizes_at.result (flat_map size_bytes ps))
     (also 80 c.put_rows-sizes_at.ensures.after refl
     (also 72 c.put_u32-2.ensures refl
-    (also 28 c.put_u32.ensures (ap le32 c.integrity_type.ensures)
+    (also 28 c.put_u32.ensures (ap le32 c.into.ensures)
     (also 16 c.put_bytes.ensures.value (whole _ c.told-recorded) c.blank-sector.ensures))))
     ∙ saturated_put 80 c.put_rows-sizes_at.result (flat_map free_bytes ps) (flat_map size_bytes ps) _ (simp (length-put, length-zeros) (omega arith)) c.put_rows-sizes_at.ensures.next))
 

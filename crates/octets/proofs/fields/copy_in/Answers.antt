@@ -1,18 +1,13 @@
-use Rattle.std.proofs.Common.{◌≡◌, ◌+◌, get_or, sym, arith}
-use Rattle.std.proofs.lemmas.List.{take_all}
-use Rattle.octets.proofs.Runs.{put_none, put_more, saturated_set}
+use Rattle.std.proofs.Common.{ℕ, ◌≡◌, ◌+◌, ◌-◌, List, ap₂, sym, ◌∙◌, arith}
+use borrow.Rule.Slice.PartMut.{put_mid}
+use Rattle.octets.proofs.Runs.{put_room, put_past}
 use Rattle.octets.proofs.fields.copy_in.Goals as goal
-use Rattle.octets.proofs.fields.copy_in.Goals.{then-place-area, else-place-area}
 
-pub loop-i-init : goal.loop-i-init
-loop-i-init c = sym (put_none c.args.at c.args.area.now)
+pub returns-then-at-area : goal.returns-then-at-area
+returns-then-at-area c =
+    let count : c.args.at + c.min-count.result - c.args.at ≡ c.min-count.result = omega arith in
+    ap₂ (λ (k : ℕ) (l : List ℕ). put_mid c.args.at k c.args.area.now l) count c.copy_from_slice.ensures.after
+    ∙ put_room c.args.at c.min-count.result c.args.run.now c.args.area.now (omega arith) c.min-count.ensures
 
-pub loop-i-preserved : goal.loop-i-preserved
-loop-i-preserved c = let e = put_more c.args.at c.args.run.now c.args.area.now c.loop-i.i (omega arith) in
-    elim c.if-place-area.branch [
-      | then-place-area w ↦ (let same : c.saturating_add-place.result ≡ c.args.at + c.loop-i.i = omega arith in cc)
-      | else-place-area w ↦ (let past = saturated_set c.loop-i.area (c.args.at + c.loop-i.i) c.saturating_add-place.result (get_or c.args.run.now c.loop-i.i 0) (omega arith) c.saturating_add-place.ensures (omega arith) in cc)
-    ]
-
-pub returns : goal.returns
-returns c = let e = take_all c.loop-i.i c.args.run.now (omega arith) in cc
+pub returns-else-at-area : goal.returns-else-at-area
+returns-else-at-area c = sym (put_past c.args.at c.args.run.now c.args.area.now c.if-at-area.false)

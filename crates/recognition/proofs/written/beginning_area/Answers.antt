@@ -1,8 +1,0 @@
-use Rattle.std.proofs.Common.{ap, ◌∙◌}
-use Rattle.recognition.specs.declared.structure.Structure.TheVariants.{Bea01}
-use Rattle.recognition.specs.Structure.{structure_in}
-use Rattle.recognition.proofs.Recognised.{recognised}
-use Rattle.recognition.proofs.written.beginning_area.Goals as goal
-
-pub returns : goal.returns
-returns c = record { bytes = c.named.ensures; read_back = ap structure_in c.named.ensures ∙ recognised Bea01 }
