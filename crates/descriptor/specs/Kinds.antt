@@ -4,6 +4,8 @@ use Rattle.descriptor.specs.declared.kinds.Extent.{Extent}
 use Rattle.descriptor.specs.declared.kinds.Partition.{Partition}
 use Rattle.descriptor.specs.declared.kinds.Integrity.{Integrity}
 use Rattle.descriptor.specs.declared.kinds.Descriptor.{Descriptor}
+use Rattle.descriptor.specs.declared.kinds.Kind.{Kind}
+use Rattle.descriptor.specs.declared.kinds.Kind.TheVariants as named
 use Rattle.descriptor.specs.declared.kinds.Descriptor.TheVariants as case
 
 pub record PrimaryFields : Type 0 where
@@ -80,3 +82,14 @@ serial_of (logical_volume f) = f.serial
 serial_of (unallocated_space f) = f.serial
 serial_of (terminating serial) = serial
 serial_of (integrity f) = f.serial
+
+-- the kind of a descriptor
+abbrev pub kind_of : Fields → Kind
+kind_of (primary f) = named.Primary
+kind_of (anchor f) = named.Anchor
+kind_of (implementation_use f) = named.ImplementationUse
+kind_of (partition f) = named.Partition
+kind_of (logical_volume f) = named.LogicalVolume
+kind_of (unallocated_space f) = named.UnallocatedSpace
+kind_of (terminating serial) = named.Terminating
+kind_of (integrity f) = named.Integrity

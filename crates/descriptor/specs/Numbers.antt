@@ -1,4 +1,4 @@
--- The numbers of kinds, and of what an integrity descriptor says.
+-- The numbers of kinds, of what an integrity descriptor says, and of access types.
 use Rattle.std.specs.Prelude.{◌≡◌, ◌≢◌, ℕ, Option, Result, MatchResult}
 use Rattle.std.specs.Option.{MatchOption}
 use Rattle.descriptor.specs.declared.kinds.Kind.{Kind}
@@ -7,6 +7,9 @@ use Rattle.descriptor.specs.declared.kinds.UnknownKind.{UnknownKind}
 use Rattle.descriptor.specs.declared.kinds.Integrity.{Integrity as State}
 use Rattle.descriptor.specs.declared.kinds.Integrity.TheVariants.{Open, Closed}
 use Rattle.descriptor.specs.declared.kinds.UnknownIntegrity.{UnknownIntegrity}
+use Rattle.descriptor.specs.declared.kinds.Access.{Access}
+use Rattle.descriptor.specs.declared.kinds.Access.TheVariants.{NotStated, ReadOnly, WriteOnce, Rewritable, Overwritable}
+use Rattle.descriptor.specs.declared.kinds.UnknownAccess.{UnknownAccess}
 
 -- the number of a kind, as a tag has it
 abbrev pub kind_number : Kind → ℕ
@@ -39,3 +42,15 @@ StateNumbered n r = MatchResult r (λ state. n ≡ state_number state) (λ e. (e
 -- what a number says, if it says something
 abbrev pub SaidBy : ℕ → Option State → Type 0
 SaidBy n o = MatchOption o ((state : State) → n ≢ state_number state) (λ state. n ≡ state_number state)
+
+-- the number of an access type
+abbrev pub access_number : Access → ℕ
+access_number NotStated = 0
+access_number ReadOnly = 1
+access_number WriteOnce = 2
+access_number Rewritable = 3
+access_number Overwritable = 4
+
+-- the access type that has a number, or that number, which none has
+abbrev pub AccessNumbered : ℕ → Result Access UnknownAccess → Type 0
+AccessNumbered n r = MatchResult r (λ access. n ≡ access_number access) (λ e. (e.0 ≡ n) × ((access : Access) → n ≢ access_number access))

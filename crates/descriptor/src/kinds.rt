@@ -1,6 +1,6 @@
 // The kinds of descriptor, and what each holds.
 ghost use Rattle.std.specs.Prelude.{◌≡◌};
-ghost use Rattle.descriptor.specs.Numbers.{kind_number, KindNumbered, state_number, StateNumbered};
+ghost use Rattle.descriptor.specs.Numbers.{kind_number, KindNumbered, state_number, StateNumbered, AccessNumbered};
 
 // The bytes of a sector, and of a logical block.
 pub const SECTOR_BYTES: usize = 2048;
@@ -86,7 +86,39 @@ pub struct Extent {
     pub location: u32,
 }
 
-// A partition: its number, how it may be written (its access type), its first sector and its count of sectors.
+// How a partition may be written, with the number of its access type.
+#[derive(Clone, Copy, PartialEq, Eq, Debug)]
+pub enum Access {
+    NotStated = 0,
+    ReadOnly = 1,
+    WriteOnce = 2,
+    Rewritable = 3,
+    Overwritable = 4,
+}
+
+// A number that no access type has.
+#[derive(Clone, Copy, PartialEq, Eq, Debug)]
+pub struct UnknownAccess(pub u32);
+
+impl TryFrom<u32> for Access {
+    type Error = UnknownAccess;
+
+    ghost try_from_gives = { AccessNumbered };
+
+    fn try_from(number: u32) -> Result<Access, UnknownAccess> {
+        match number {
+            0 => Ok(Access::NotStated),
+            1 => Ok(Access::ReadOnly),
+            2 => Ok(Access::WriteOnce),
+            3 => Ok(Access::Rewritable),
+            4 => Ok(Access::Overwritable),
+            _ => Err(UnknownAccess(number)),
+        }
+    }
+}
+
+// A partition: its number, its access type, its first sector and its count of sectors. A card may name any number as the
+// access type, and what is read gives back the one that stands there; `Access::try_from` tells what it means.
 #[derive(Clone, Copy)]
 pub struct Partition {
     pub number: u16,

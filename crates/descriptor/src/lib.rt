@@ -6,3 +6,4 @@ pub mod decode;
 pub mod kinds;
 pub mod refusal;
 pub mod serial;
+pub mod words;

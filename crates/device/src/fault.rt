@@ -2,12 +2,13 @@
 ghost use Rattle.std.specs.Prelude.{◌≡◌};
 ghost use Rattle.device.specs.Faults.{number_of, arising, passed_on, handed_up};
 
-// Why a read or a write is refused: there is no such sector, what it holds cannot be read, it takes no writes.
+// Why a read or a write is refused, with the refusal's number: there is no such sector, what it holds cannot be read, it takes
+// no writes.
 #[derive(Clone, Copy, PartialEq, Eq, Debug)]
 pub enum Reason {
-    OffDevice,
-    Unreadable,
-    TakesNoWrites,
+    OffDevice = 1,
+    Unreadable = 2,
+    TakesNoWrites = 3,
 }
 
 // What sort of device refused: one of ours, or one that drives a card.
@@ -52,11 +53,7 @@ impl DeviceFault {
     pub fn number(self) -> u8
         ensures { result ≡ number_of self }
     {
-        match self.reason {
-            Reason::OffDevice => 1,
-            Reason::Unreadable => 2,
-            Reason::TakesNoWrites => 3,
-        }
+        self.reason as u8
     }
 
     // The fault as the layer above passes it on: whole, with one more layer above its origin.

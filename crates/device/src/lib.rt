@@ -5,3 +5,4 @@ pub mod fault;
 pub mod interface;
 pub mod through;
 pub mod torn;
+pub mod words;

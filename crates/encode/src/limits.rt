@@ -3,6 +3,8 @@ ghost use Rattle.std.specs.Prelude.{◌≡◌};
 ghost use Rattle.encode.specs.Limits.{limit_number, all_short};
 
 use descriptor::kinds::FreePair;
+use std::error::Error;
+use std::fmt;
 
 // The most sectors of a free pair: an extent is shorter than 2^30 bytes.
 pub const MOST_PAIR_SECTORS: u32 = 524_287;
@@ -27,6 +29,18 @@ impl OffLimits {
         }
     }
 }
+
+impl fmt::Display for OffLimits {
+    fn fmt<W: fmt::Write>(&self, f: &mut fmt::Formatter<W>) -> fmt::Result {
+        write!(
+            f,
+            "refused {}: a table or an extent is too long",
+            self.number()
+        )
+    }
+}
+
+impl Error for OffLimits {}
 
 // Whether each free pair is short enough for an extent.
 pub(crate) fn lengths_fit(free: &[FreePair]) -> bool

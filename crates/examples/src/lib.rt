@@ -4,7 +4,7 @@
 ghost use Rattle.std.specs.Prelude.{◌≡◌};
 ghost use Rattle.examples.specs.Settled.{example_sector, Settled};
 
-use descriptor::kinds::Sector;
+use descriptor::kinds::{SECTOR_BYTES, Sector};
 use octets::fields::put_bytes;
 
 // The tag of the example.
@@ -17,7 +17,7 @@ pub fn terminating_example() -> Sector
     ensures value { result ≡ example_sector }
     ensures settled { Settled }
 {
-    let mut sector = [0u8; 2048];
+    let mut sector = [0u8; SECTOR_BYTES];
     put_bytes(&mut sector, 0, &TAG);
     sector
 }

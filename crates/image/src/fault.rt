@@ -42,23 +42,13 @@ impl From<OffLimits> for Fault {
 impl fmt::Display for Fault {
     fn fmt<W: fmt::Write>(&self, f: &mut fmt::Formatter<W>) -> fmt::Result {
         match self {
-            Fault::Io(e) => {
-                let e = *e;
-                write!(f, "{e}")
-            }
-            Fault::OffLimits(limit) => {
-                let number = limit.number();
-                write!(f, "refused {number}: a table or an extent is too long")
-            }
+            Fault::Io(error) => write!(f, "{error}"),
+            Fault::OffLimits(limit) => write!(f, "{limit}"),
             Fault::Empty => write!(f, "the image is shorter than one sector of 2048 bytes"),
-            Fault::Partial { sector, bytes } => {
-                let sector = *sector;
-                let bytes = *bytes;
-                write!(
-                    f,
-                    "the image ends inside sector {sector}, after {bytes} of its 2048 bytes"
-                )
-            }
+            Fault::Partial { sector, bytes } => write!(
+                f,
+                "the image ends inside sector {sector}, after {bytes} of its 2048 bytes"
+            ),
             Fault::TooLong => write!(f, "the image has more sectors than a card can number"),
             Fault::Usage => write!(f, "usage: cardtool, or cardtool inspect FILE"),
         }

@@ -5,7 +5,7 @@ ghost use Rattle.inspection.specs.Findings.{examined, found_in};
 ghost use Rattle.image.specs.Reports.{told, Met, Cut};
 
 use crate::fault::Fault;
-use descriptor::kinds::Sector;
+use descriptor::kinds::{SECTOR_BYTES, Sector};
 use inspection::finding::{Finding, examine};
 use inspection::summary::Summary;
 use std::io::Read;
@@ -16,13 +16,7 @@ use wording::Line;
 fn worth_telling(finding: Finding<'_>) -> bool
     ensures { result ≡ told (found_in finding.entry) }
 {
-    match finding {
-        Finding::Descriptor(_, _) => true,
-        Finding::Structure(_) => true,
-        Finding::Refused(_) => true,
-        Finding::Blank => false,
-        Finding::Other => false,
-    }
+    !matches!(finding, Finding::Blank | Finding::Other)
 }
 
 // Examines a sector, counts it, and prints what it is if that is worth a line.
@@ -38,8 +32,7 @@ pub fn report(
     let finding = examine(sector, number);
     summary.note(finding);
     if worth_telling(finding) {
-        let line = Line { number, finding };
-        println!(rt; "{line}")?;
+        println!(rt; "{}", Line { number, finding })?;
     }
     Ok(())
 }
@@ -49,8 +42,8 @@ pub fn fill<R: Read>(source: &mut R, sector: &mut Sector) -> io::Result<usize>
     ensures { IfOk result (λ n. n ≤ 2048) }
 {
     let mut filled = 0;
-    for _ in 0..2048u32 {
-        if filled == 2048 {
+    for _ in 0..SECTOR_BYTES {
+        if filled == SECTOR_BYTES {
             break;
         }
         let count = source.read(&mut sector[filled..])?;
@@ -69,7 +62,7 @@ pub fn inspect(rt: &HostRuntime, path: &str) -> Result<Summary, Fault>
     ensures cut { IfErr result Cut }
 {
     let mut file = fs::open(rt, path)?;
-    let mut sector = [0u8; 2048];
+    let mut sector = [0u8; SECTOR_BYTES];
     let mut summary = Summary::new();
     for number in 0..u32::MAX {
         let bytes = fill(&mut file, &mut sector)?;
@@ -79,7 +72,7 @@ pub fn inspect(rt: &HostRuntime, path: &str) -> Result<Summary, Fault>
         if bytes == 0 {
             return Ok(summary);
         }
-        if bytes < 2048 {
+        if bytes < SECTOR_BYTES {
             return Err(Fault::Partial {
                 sector: number,
                 bytes,

@@ -1,6 +1,6 @@
 -- What is found in a sector whose place is not known.
 use Rattle.std.specs.Prelude.{◌≡◌, ℕ, Bool, true, false, cond, List, take, Some, None, Ok, Err, Option, Result, ◌≢◌, nat_eq}
-use Rattle.octets.specs.Every.{every}
+use Rattle.std.specs.List.{list_all}
 use Rattle.descriptor.specs.declared.kinds.Place.{Place}
 use Rattle.descriptor.specs.declared.kinds.Place.TheVariants.{Anchor, Sequence, IntegrityExtent}
 use Rattle.recognition.specs.declared.structure.Structure.{Structure}
@@ -23,7 +23,7 @@ pub data Found : Type 0 where
 
 -- the tag's sixteen bytes are all zero: nothing was recorded there
 abbrev pub tag_blank : List ℕ → Bool
-tag_blank bs = every (λ b. nat_eq b 0) (take 16 bs)
+tag_blank bs = list_all (λ b. nat_eq b 0) (take 16 bs)
 
 -- a sector that is a descriptor in no place, for a reason
 abbrev pub no_descriptor : List ℕ → Refusal → Option Structure → Found

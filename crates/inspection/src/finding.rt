@@ -29,12 +29,7 @@ fn is_blank(sector: &Sector) -> bool
     ensures { result ≡ tag_blank sector.now }
 {
     let tag = &sector[0..16];
-    for byte in tag {
-        if *byte != 0 {
-            return false;
-        }
-    }
-    true
+    tag.iter().all(|byte| *byte == 0)
 }
 
 // What a sector is that is a descriptor in no place, for a reason.

@@ -4,9 +4,10 @@ ghost use Rattle.inspection.specs.Counts.{nothing_met, noted, all_met};
 ghost use Rattle.inspection.specs.Findings.{found_in};
 
 use crate::finding::Finding;
+use std::fmt;
 
 // The counts, which stop at the largest number.
-#[derive(Clone, Copy)]
+#[derive(Clone, Copy, PartialEq, Eq, Debug)]
 pub struct Summary {
     pub descriptors: u64,
     pub structures: u64,
@@ -51,5 +52,22 @@ impl Summary {
             .saturating_add(self.refused)
             .saturating_add(self.blank)
             .saturating_add(self.other)
+    }
+}
+
+impl fmt::Display for Summary {
+    fn fmt<W: fmt::Write>(&self, f: &mut fmt::Formatter<W>) -> fmt::Result {
+        let Summary {
+            descriptors,
+            structures,
+            refused,
+            blank,
+            other,
+        } = self;
+        write!(
+            f,
+            "sectors: {}; descriptors: {descriptors}; volume structure descriptors: {structures}; refused: {refused}; blank: {blank}; other: {other}",
+            self.sectors()
+        )
     }
 }

@@ -5,6 +5,7 @@ ghost use Rattle.recognition.specs.Structure.{code_of, structure_in};
 
 use descriptor::kinds::Sector;
 use octets::fields::byte_at;
+use std::fmt;
 
 // The standard that a volume structure descriptor names.
 #[derive(Clone, Copy, PartialEq, Eq, Debug)]
@@ -17,15 +18,21 @@ pub enum Structure {
 
 impl Structure {
     // The identifier by which a sector names the standard.
-    pub fn identifier(self) -> &'static [u8; 5]
+    pub fn identifier(self) -> &'static str
         ensures { result.now ≡ code_of self }
     {
         match self {
-            Structure::Bea01 => b"BEA01",
-            Structure::Boot2 => b"BOOT2",
-            Structure::Nsr03 => b"NSR03",
-            Structure::Tea01 => b"TEA01",
+            Structure::Bea01 => "BEA01",
+            Structure::Boot2 => "BOOT2",
+            Structure::Nsr03 => "NSR03",
+            Structure::Tea01 => "TEA01",
         }
+    }
+}
+
+impl fmt::Display for Structure {
+    fn fmt<W: fmt::Write>(&self, f: &mut fmt::Formatter<W>) -> fmt::Result {
+        f.write_str(self.identifier())
     }
 }
 

@@ -13,7 +13,7 @@ pub fn written(which: Structure) -> Sector
     ensures read_back { structure_in result ≡ Some which }
 {
     let mut sector = [0u8; SECTOR_BYTES];
-    put_bytes(&mut sector, 1, which.identifier());
+    put_bytes(&mut sector, 1, which.identifier().as_bytes());
     put_bytes(&mut sector, 6, &[1]);
     sector
 }

@@ -2,7 +2,7 @@
 ghost use Rattle.std.specs.Prelude.{◌≡◌};
 ghost use Rattle.sample.specs.Damage.{bit_turned, sum_mended, aged, small_blocks};
 
-use descriptor::kinds::Sector;
+use descriptor::kinds::{SECTOR_BYTES, Sector};
 use octets::fields::{put_u16, put_u32};
 use octets::tag::sum_of;
 
@@ -10,7 +10,7 @@ use octets::tag::sum_of;
 pub fn turn_bit(sector: &mut Sector, at: usize)
     ensures { sector.new ≡ bit_turned at sector.old }
 {
-    if at < 2048 {
+    if at < SECTOR_BYTES {
         sector[at] = sector[at] ^ 1;
     }
 }

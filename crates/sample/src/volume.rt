@@ -3,7 +3,7 @@ ghost use Rattle.std.specs.Prelude.{◌≡◌, ℕ, [], ◌∷◌};
 ghost use Rattle.octets.specs.Fields.{put, zeros};
 ghost use Rattle.sample.specs.Volume.{pottery, loom, free_space};
 
-use descriptor::kinds::{Extent, FreePair, Partition, SetIdentifier, Timestamp, VolumeIdentifier};
+use descriptor::kinds::{Access, Extent, FreePair, Partition, Timestamp};
 use octets::fields::put_bytes;
 
 // The serial number that the sample's descriptors bear.
@@ -28,20 +28,11 @@ pub const INTEGRITY: Extent = Extent {
 // The date: 17 November 2026, 9:30:00, in Coordinated Universal Time.
 pub const DATE: Timestamp = [0, 0, 0xEA, 0x07, 11, 17, 9, 30, 0, 0, 0, 0];
 
-// A volume identifier of some text, which it cuts or fills with zeros.
-pub fn short_name(text: &[u8]) -> VolumeIdentifier
-    ensures { result ≡ put 0 text.now (zeros 32) }
+// An identifier of some text, which is cut, or filled with zeros.
+pub fn name<const N: usize>(text: &[u8]) -> [u8; N]
+    ensures { result ≡ put 0 text.now (zeros N) }
 {
-    let mut name = [0u8; 32];
-    put_bytes(&mut name, 0, text);
-    name
-}
-
-// A volume set or logical volume identifier of some text.
-pub fn long_name(text: &[u8]) -> SetIdentifier
-    ensures { result ≡ put 0 text.now (zeros 128) }
-{
-    let mut name = [0u8; 128];
+    let mut name = [0u8; N];
     put_bytes(&mut name, 0, text);
     name
 }
@@ -53,13 +44,13 @@ pub fn partitions() -> [Partition; 2]
     [
         Partition {
             number: 7,
-            access: 3,
+            access: Access::Rewritable as u32,
             first: 66,
             count: 100,
         },
         Partition {
             number: 9,
-            access: 1,
+            access: Access::ReadOnly as u32,
             first: 166,
             count: 50,
         },

@@ -19,7 +19,7 @@ fn tell_call<D: Device>(rt: &HostRuntime, device: &mut D, call: Call) -> io::Res
     ensures { IfOk result (λ b. (D.Device.model device.new).tally ≡ (if b then counted (D.Device.model device.old).tally else (D.Device.model device.old).tally)) }
 {
     match call {
-        Call::Write { sector, byte } => tell_write(rt, device, sector, byte),
+        Call::Write { sector, byte } => Ok(tell_write(rt, device, sector, byte)?.is_ok()),
         Call::Read { sector } => {
             let _ = tell_read(rt, device, sector)?;
             Ok(false)

@@ -8,7 +8,6 @@ use image::fault::Fault;
 use image::inspect::inspect;
 use inspection::summary::Summary;
 use std::env;
-use wording::Totals;
 
 // Inspects an image file and prints the summary, or says why it does not.
 fn inspect_and_sum(rt: &HostRuntime, path: &str) -> Result<Summary, Fault>
@@ -16,8 +15,7 @@ fn inspect_and_sum(rt: &HostRuntime, path: &str) -> Result<Summary, Fault>
 {
     match inspect(rt, path) {
         Ok(summary) => {
-            let totals = Totals(summary);
-            println!(rt; "{totals}")?;
+            println!(rt; "{summary}")?;
             Ok(summary)
         }
         Err(fault) => {

@@ -11,13 +11,11 @@ use encode::table_descriptors::{integrity, logical_volume, unallocated_space};
 use image::fault::Fault;
 use image::inspect::report;
 use inspection::summary::Summary;
-use recognition::written::{beginning_area, nsr, terminating_area};
+use recognition::structure::Structure;
+use recognition::written::written;
 use sample::damage::{age, shrink_blocks, turn_bit};
-use sample::volume::{
-    DATE, INTEGRITY, MAIN, RESERVE, SERIAL, free_space, long_name, partitions, short_name,
-};
+use sample::volume::{DATE, INTEGRITY, MAIN, RESERVE, SERIAL, free_space, name, partitions};
 use std::io;
-use wording::Totals;
 
 // Where a descriptor of the sample stands.
 fn at(location: u32) -> Stamp
@@ -33,9 +31,9 @@ fn at(location: u32) -> Stamp
 fn show_system(rt: &HostRuntime, summary: &mut Summary) -> io::Result<()>
     ensures { OnOk result (Met 4 summary.old summary.new) }
 {
-    report(rt, 16, &beginning_area(), summary)?;
-    report(rt, 17, &nsr(), summary)?;
-    report(rt, 18, &terminating_area(), summary)?;
+    report(rt, 16, &written(Structure::Bea01), summary)?;
+    report(rt, 17, &written(Structure::Nsr03), summary)?;
+    report(rt, 18, &written(Structure::Tea01), summary)?;
     let stamp = Stamp {
         serial: 0,
         location: 256,
@@ -46,13 +44,7 @@ fn show_system(rt: &HostRuntime, summary: &mut Summary) -> io::Result<()>
 
 // The logical volume of the sample.
 fn sample_volume(location: u32) -> Result<Sector, OffLimits> {
-    logical_volume(
-        at(location),
-        3,
-        &long_name(b"TALKS"),
-        &partitions(),
-        INTEGRITY,
-    )
+    logical_volume(at(location), 3, &name(b"TALKS"), &partitions(), INTEGRITY)
 }
 
 // The main sequence, and its integrity descriptor.
@@ -60,13 +52,7 @@ fn show_sequence(rt: &HostRuntime, summary: &mut Summary) -> Result<(), Fault>
     ensures { OnOk result (Met 7 summary.old summary.new) }
 {
     let all = partitions();
-    let first = primary(
-        at(32),
-        0,
-        &short_name(b"MUSEUM CARD 12"),
-        &long_name(b"MUSEUM"),
-        &DATE,
-    );
+    let first = primary(at(32), 0, &name(b"MUSEUM CARD 12"), &name(b"MUSEUM"), &DATE);
     report(rt, 32, &first, summary)?;
     report(rt, 33, &partition(at(33), 1, all[0]), summary)?;
     report(rt, 34, &partition(at(34), 2, all[1]), summary)?;
@@ -125,7 +111,6 @@ pub fn demonstrate(rt: &HostRuntime) -> Result<Summary, Fault>
     show_sequence(rt, &mut summary)?;
     println!(rt; "Damaged copies of them:")?;
     show_damaged(rt, &mut summary)?;
-    let totals = Totals(summary);
-    println!(rt; "{totals}")?;
+    println!(rt; "{summary}")?;
     Ok(summary)
 }

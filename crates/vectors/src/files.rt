@@ -1,4 +1,5 @@
 // Image files: whole, short, empty and missing.
+use descriptor::kinds::SECTOR_BYTES;
 use examples::terminating_example;
 use image::fault::Fault;
 use image::inspect::{fill, inspect};
@@ -33,14 +34,8 @@ fn refused_files(rt: HostRuntime) -> Result<(), Fail> {
 #[test]
 fn whole_file(rt: HostRuntime) -> Result<(), Fail> {
     let sector = terminating_example();
-    let mut image = vec![in rt.alloc(); 0u8; 0]?;
-    for number in 0..40u32 {
-        if number == 37 {
-            image.extend_from_slice(&sector)?;
-        } else {
-            image.extend_from_slice(&[0u8; 2048])?;
-        }
-    }
+    let mut image = vec![in rt.alloc(); 0u8; 40 * SECTOR_BYTES]?;
+    image[37 * SECTOR_BYTES..38 * SECTOR_BYTES].copy_from_slice(&sector);
     fs::write(&rt, "whole.img", image.as_slice())?;
     let summary = inspect(&rt, "whole.img")?;
     assert_eq!(rt; summary.sectors(), 40);
@@ -70,7 +65,7 @@ impl Read for Trickle {
 #[test]
 fn short_reads(rt: HostRuntime) -> Result<(), Fail> {
     let mut source = Trickle { left: 3000 };
-    let mut sector = [0u8; 2048];
+    let mut sector = [0u8; SECTOR_BYTES];
     assert_eq!(rt; fill(&mut source, &mut sector)?, 2048);
     assert_eq!(rt; sector[0], 7);
     assert_eq!(rt; sector[2047], 7);

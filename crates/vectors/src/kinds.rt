@@ -1,23 +1,20 @@
 // The limits of the kinds that have some.
-use descriptor::decode::decode;
-use descriptor::kinds::Place;
+use crate::tags::refusal;
+use descriptor::kinds::{Place, SECTOR_BYTES};
 use octets::fields::{put_u16, put_u32};
 use sample::damage::mend_sum;
 
 // A sector of a kind, for sector 0, with no byte under its CRC and up to three fields of 32 bits; its refusal's number,
 // or 0 where it passes.
-fn refusal(kind: u16, place: Place, fields: [(usize, u32); 3]) -> u8 {
-    let mut sector = [0u8; 2048];
+fn with_fields(kind: u16, place: Place, fields: [(usize, u32); 3]) -> u8 {
+    let mut sector = [0u8; SECTOR_BYTES];
     put_u16(&mut sector, 0, kind);
     put_u16(&mut sector, 2, 3);
     for (at, value) in fields {
         put_u32(&mut sector, at, value);
     }
     mend_sum(&mut sector);
-    match decode(&sector, 0, place) {
-        Ok(_) => 0,
-        Err(refusal) => refusal.number(),
-    }
+    refusal(&sector, 0, place)
 }
 
 // Each row: block size, map table length, count of maps, and the refusal.
@@ -35,7 +32,7 @@ const VOLUMES: [(u32, u32, u32, u8); 7] = [
 fn logical_volumes(rt: HostRuntime) {
     for (size, table, maps, wanted) in VOLUMES {
         assert_eq!(rt;
-            refusal(6, Place::Sequence, [(212, size), (264, table), (268, maps)]),
+            with_fields(6, Place::Sequence, [(212, size), (264, table), (268, maps)]),
             wanted
         );
     }
@@ -56,7 +53,7 @@ const SPACES: [(u32, u32, u32, u8); 7] = [
 fn unallocated_spaces(rt: HostRuntime) {
     for (count, first, last, wanted) in SPACES {
         assert_eq!(rt;
-            refusal(7, Place::Sequence, [(20, count), (24, first), (144, last)]),
+            with_fields(7, Place::Sequence, [(20, count), (24, first), (144, last)]),
             wanted
         );
     }
@@ -69,7 +66,7 @@ const STATES: [(u32, u32, u8); 5] = [(0, 0, 0), (1, 8, 0), (2, 0, 13), (0, 9, 13
 fn integrity_states(rt: HostRuntime) {
     for (state, partitions, wanted) in STATES {
         assert_eq!(rt;
-            refusal(
+            with_fields(
                 9,
                 Place::IntegrityExtent,
                 [(28, state), (72, partitions), (76, 0)],

@@ -1,16 +1,14 @@
 // The example's tag, whole and damaged.
 use descriptor::decode::decode;
-use descriptor::kinds::Place;
+use descriptor::kinds::{Place, Sector};
 use examples::terminating_example;
 use octets::fields::put_u16;
 use sample::damage::{mend_sum, turn_bit};
 
 // The number of the refusal of a sector, or 0 where it passes.
-fn refusal(sector: &[u8; 2048], number: u32, place: Place) -> u8 {
-    match decode(sector, number, place) {
-        Ok(_) => 0,
-        Err(refusal) => refusal.number(),
-    }
+pub fn refusal(sector: &Sector, number: u32, place: Place) -> u8 {
+    let refused = decode(sector, number, place).err();
+    refused.map_or(0, |refusal| refusal.number())
 }
 
 // The example with the lowest bit of one byte turned, and its sum made right again or not.

@@ -1,11 +1,11 @@
 // The limits of what is written, and the rows of tables that are read back.
 use descriptor::decode::decode;
-use descriptor::kinds::{Descriptor, Extent, FreePair, Integrity, Partition, Place};
+use descriptor::kinds::{Descriptor, Extent, FreePair, Integrity, Partition, PartitionMap, Place};
 use encode::limits::OffLimits;
 use encode::seal::Stamp;
 use encode::table_descriptors::{integrity, logical_volume, unallocated_space};
 use std::test::Fail;
-use tables::read::{extent_row, map_row, size_row};
+use tables::read::read_row;
 
 const STAMP: Stamp = Stamp {
     serial: 0xFFFF,
@@ -26,13 +26,6 @@ fn some(number: u16) -> Partition {
     }
 }
 
-fn limit(written: Result<[u8; 2048], OffLimits>) -> Option<OffLimits> {
-    match written {
-        Ok(_) => None,
-        Err(limit) => Some(limit),
-    }
-}
-
 #[test]
 fn limits(rt: HostRuntime) {
     let nine = [some(1); 9];
@@ -46,24 +39,24 @@ fn limits(rt: HostRuntime) {
         count: 524_288,
     };
     assert_eq!(rt;
-        limit(logical_volume(STAMP, 0, &name, &nine, NOWHERE)),
+        logical_volume(STAMP, 0, &name, &nine, NOWHERE).err(),
         Some(OffLimits::Partitions)
     );
     assert_eq!(rt;
-        limit(logical_volume(STAMP, 0, &name, &nine[0..8], NOWHERE)),
+        logical_volume(STAMP, 0, &name, &nine[0..8], NOWHERE).err(),
         None
     );
     assert_eq!(rt;
-        limit(integrity(STAMP, &[0; 12], Integrity::Open, &nine)),
+        integrity(STAMP, &[0; 12], Integrity::Open, &nine).err(),
         Some(OffLimits::Partitions)
     );
     assert_eq!(rt;
-        limit(unallocated_space(STAMP, 0, &[pair; 17])),
+        unallocated_space(STAMP, 0, &[pair; 17]).err(),
         Some(OffLimits::Pairs)
     );
-    assert_eq!(rt; limit(unallocated_space(STAMP, 0, &[pair; 16])), None);
+    assert_eq!(rt; unallocated_space(STAMP, 0, &[pair; 16]).err(), None);
     assert_eq!(rt;
-        limit(unallocated_space(STAMP, 0, &[pair, long])),
+        unallocated_space(STAMP, 0, &[pair, long]).err(),
         Some(OffLimits::PairLength)
     );
     assert_eq!(rt; OffLimits::PairLength.number(), 34);
@@ -76,16 +69,24 @@ fn rows(rt: HostRuntime) -> Result<(), Fail> {
     else {
         return Err(Fail::new("no logical volume"));
     };
-    let first = map_row(maps, 0).ok_or("no first map")?;
+    let first = read_row::<PartitionMap>(maps, 0).ok_or("no first map")?;
     assert_eq!(rt; first.number, 0xABCD);
     assert_eq!(rt; first.kind, 1);
     assert_eq!(rt; first.length, 6);
     assert_eq!(rt; first.volume, 1);
-    assert_eq!(rt; map_row(maps, 1).ok_or("no second map")?.number, 5);
-    assert!(rt; map_row(maps, 2).is_none(), "two rows");
-    assert!(rt; size_row(maps, usize::MAX).is_none(), "far past the end");
+    assert_eq!(rt;
+        read_row::<PartitionMap>(maps, 1)
+            .ok_or("no second map")?
+            .number,
+        5
+    );
+    assert!(rt; read_row::<PartitionMap>(maps, 2).is_none(), "two rows");
     assert!(rt;
-        extent_row(b"\x00\x08\x00\x00\x2A\x00\x00", 0).is_none(),
+        read_row::<u32>(maps, usize::MAX).is_none(),
+        "far past the end"
+    );
+    assert!(rt;
+        read_row::<Extent>(b"\x00\x08\x00\x00\x2A\x00\x00", 0).is_none(),
         "seven bytes are no row of eight"
     );
     Ok(())
