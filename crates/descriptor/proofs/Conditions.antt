@@ -24,7 +24,7 @@ pub some_same : {A : Type 0} (x d : A) → ◌≡◌ {A = Option A} (Some x) (So
 some_same x d e = cc
 
 pub none_some : {A : Type 0} (d : A) → ◌≡◌ {A = Option A} None (Some d) → ⊥
-none_some d e = let z : ◌≡◌ {A = ℕ} 0 1 = cc in omega arith
+none_some d e = cc
 
 if_so_some : {A : Type 0} (b : Bool) (x d : A) → if_so b x ≡ Some d → (b ≡ true) × (x ≡ d)
 if_so_some true x d e = (refl, some_same x d e)

@@ -14,54 +14,43 @@ use Rattle.descriptor.specs.Law.{TagRight, LocationRight, CrcRight, Suits, Readi
 use Rattle.descriptor.proofs.Conditions.{tag_decides, location_decides, crc_decides, from_kind, to_kind, some_same, none_some}
 use Rattle.descriptor.proofs.Decoding.{fails_tag, fails_location, fails_crc, by_kind}
 
--- two answers of different sorts are never one
-abbrev sort : Result Fields Refusal → ℕ
-sort (Ok d) = 0
-sort (Err refusal.Tag) = 1
-sort (Err refusal.Location) = 2
-sort (Err refusal.Crc) = 3
-sort (Err refusal.Kind) = 4
-
-apart : (r s : Result Fields Refusal) → (sort r ≡ sort s → ⊥) → {A : Type 0} → r ≡ s → A
-apart r s other e = absurd (other (ap sort e))
-
 ok_same : (x d : Fields) → ◌≡◌ {A = Result Fields Refusal} (Ok x) (Ok d) → x ≡ d
 ok_same x d e = cc
 
 module _ (bs : List ℕ) (number : ℕ) (place : Place) where
   tag_fails : (TagRight bs → ⊥) → Reading bs number place (Err refusal.Tag)
   tag_fails none = record {
-    accepted = λ d. (apart (Err refusal.Tag) (Ok d) (omega arith), λ h. absurd (none h.0));
+    accepted = λ d. (λ e. cc, λ h. absurd (none h.0));
     tag = (λ _. none, λ _. refl);
-    location = (apart (Err refusal.Tag) (Err refusal.Location) (omega arith), λ h. absurd (none h.0));
-    crc = (apart (Err refusal.Tag) (Err refusal.Crc) (omega arith), λ h. absurd (none h.0));
-    kind = (apart (Err refusal.Tag) (Err refusal.Kind) (omega arith), λ h. absurd (none h.0));
+    location = (λ e. cc, λ h. absurd (none h.0));
+    crc = (λ e. cc, λ h. absurd (none h.0));
+    kind = (λ e. cc, λ h. absurd (none h.0));
   }
 
   location_fails : TagRight bs → (LocationRight bs number → ⊥) → Reading bs number place (Err refusal.Location)
   location_fails t none = record {
-    accepted = λ d. (apart (Err refusal.Location) (Ok d) (omega arith), λ h. absurd (none h.1));
-    tag = (apart (Err refusal.Location) (Err refusal.Tag) (omega arith), λ h. absurd (h t));
+    accepted = λ d. (λ e. cc, λ h. absurd (none h.1));
+    tag = (λ e. cc, λ h. absurd (h t));
     location = (λ _. (t, none), λ _. refl);
-    crc = (apart (Err refusal.Location) (Err refusal.Crc) (omega arith), λ h. absurd (none h.1));
-    kind = (apart (Err refusal.Location) (Err refusal.Kind) (omega arith), λ h. absurd (none h.1));
+    crc = (λ e. cc, λ h. absurd (none h.1));
+    kind = (λ e. cc, λ h. absurd (none h.1));
   }
 
   crc_fails : TagRight bs → LocationRight bs number → (CrcRight bs → ⊥) → Reading bs number place (Err refusal.Crc)
   crc_fails t l none = record {
-    accepted = λ d. (apart (Err refusal.Crc) (Ok d) (omega arith), λ h. absurd (none h.2));
-    tag = (apart (Err refusal.Crc) (Err refusal.Tag) (omega arith), λ h. absurd (h t));
-    location = (apart (Err refusal.Crc) (Err refusal.Location) (omega arith), λ h. absurd (h.1 l));
+    accepted = λ d. (λ e. cc, λ h. absurd (none h.2));
+    tag = (λ e. cc, λ h. absurd (h t));
+    location = (λ e. cc, λ h. absurd (h.1 l));
     crc = (λ _. (t, l, none), λ _. refl);
-    kind = (apart (Err refusal.Crc) (Err refusal.Kind) (omega arith), λ h. absurd (none h.2));
+    kind = (λ e. cc, λ h. absurd (none h.2));
   }
 
   kind_fails : TagRight bs → LocationRight bs number → CrcRight bs → ((d : Fields) → Suits bs place d → ⊥) → Reading bs number place (Err refusal.Kind)
   kind_fails t l c none = record {
-    accepted = λ d. (apart (Err refusal.Kind) (Ok d) (omega arith), λ h. absurd (none d h.3));
-    tag = (apart (Err refusal.Kind) (Err refusal.Tag) (omega arith), λ h. absurd (h t));
-    location = (apart (Err refusal.Kind) (Err refusal.Location) (omega arith), λ h. absurd (h.1 l));
-    crc = (apart (Err refusal.Kind) (Err refusal.Crc) (omega arith), λ h. absurd (h.2 c));
+    accepted = λ d. (λ e. cc, λ h. absurd (none d h.3));
+    tag = (λ e. cc, λ h. absurd (h t));
+    location = (λ e. cc, λ h. absurd (h.1 l));
+    crc = (λ e. cc, λ h. absurd (h.2 c));
     kind = (λ _. (t, l, c, none), λ _. refl);
   }
 
@@ -71,10 +60,10 @@ module _ (bs : List ℕ) (number : ℕ) (place : Place) where
       λ e. (t, l, c, subst (Suits bs place) (ok_same x d e) (from_kind bs place x found)),
       λ h. ap {B = Result Fields Refusal} Ok (some_same x d (sym found ∙ to_kind bs place d h.3)),
     );
-    tag = (apart (Ok x) (Err refusal.Tag) (omega arith), λ h. absurd (h t));
-    location = (apart (Ok x) (Err refusal.Location) (omega arith), λ h. absurd (h.1 l));
-    crc = (apart (Ok x) (Err refusal.Crc) (omega arith), λ h. absurd (h.2 c));
-    kind = (apart (Ok x) (Err refusal.Kind) (omega arith), λ h. absurd (h.3 x (from_kind bs place x found)));
+    tag = (λ e. cc, λ h. absurd (h t));
+    location = (λ e. cc, λ h. absurd (h.1 l));
+    crc = (λ e. cc, λ h. absurd (h.2 c));
+    kind = (λ e. cc, λ h. absurd (h.3 x (from_kind bs place x found)));
   }
 
   by_place : TagRight bs → LocationRight bs number → CrcRight bs → (o : Option Fields) → kind_in place bs ≡ o → Reading bs number place (ok_or o refusal.Kind)

@@ -1,4 +1,5 @@
 pub mod Limits
+pub mod Named
 pub mod Numbers
 pub mod Kinds
 pub mod Refusals

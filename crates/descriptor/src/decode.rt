@@ -3,7 +3,8 @@ ghost use Rattle.std.specs.Prelude.{◌≡◌};
 ghost use Rattle.octets.specs.Fields.{u16_at, u32_at};
 ghost use Rattle.descriptor.specs.Law.{Reading};
 ghost use Rattle.descriptor.specs.Kinds.{fields_of};
-ghost use Rattle.descriptor.specs.Numbers.{NamedBy, SaidBy};
+ghost use Rattle.descriptor.specs.Named.{NamedBy};
+ghost use Rattle.descriptor.specs.Numbers.{kind_number, state_number};
 ghost use Rattle.descriptor.specs.declared.kinds.Place.TheVariants.{Anchor};
 ghost use Rattle.descriptor.specs.Decode.{extent_at, primary_in, anchor_in, implementation_use_in, partition_in, logical_volume_in, unallocated_space_in, terminating_in, integrity_in, if_so, found, sequence_kind, integrity_kind, kind_in, decoded, answer};
 ghost use Rattle.descriptor.specs.Checks.{logical_volume_fits, unallocated_space_fits, integrity_fits};
@@ -116,7 +117,7 @@ fn terminating(sector: &Sector) -> Descriptor<'_>
 
 // What the integrity type says, if it says something.
 fn state_of(sector: &Sector) -> Option<Integrity>
-    ensures { SaidBy (u32_at sector.now 28) result }
+    ensures { NamedBy state_number (u32_at sector.now 28) result }
 {
     Integrity::try_from(u32_at(sector, 28)).ok()
 }
@@ -142,7 +143,7 @@ fn integrity(sector: &Sector) -> Option<Descriptor<'_>>
 
 // The kind that the tag names, if it is one of ours.
 fn kind_of(sector: &Sector) -> Option<Kind>
-    ensures { NamedBy (u16_at sector.now 0) result }
+    ensures { NamedBy kind_number (u16_at sector.now 0) result }
 {
     Kind::try_from(u16_at(sector, 0)).ok()
 }

@@ -1,6 +1,7 @@
 // The kinds of descriptor, and what each holds.
 ghost use Rattle.std.specs.Prelude.{◌≡◌};
-ghost use Rattle.descriptor.specs.Numbers.{kind_number, KindNumbered, state_number, StateNumbered, AccessNumbered};
+ghost use Rattle.descriptor.specs.Named.{Numbered};
+ghost use Rattle.descriptor.specs.Numbers.{kind_number, state_number, access_number};
 
 // The bytes of a sector, and of a logical block.
 pub const SECTOR_BYTES: usize = 2048;
@@ -26,6 +27,10 @@ pub const MOST_PARTITIONS: u32 = 8;
 // The most extents of unallocated space that a volume lists here.
 pub const MOST_PAIRS: u32 = 16;
 
+// A number that names nothing here.
+#[derive(Clone, Copy, PartialEq, Eq, Debug)]
+pub struct Unknown<N>(pub N);
+
 // The kind of a descriptor, with its number, as a tag has it.
 #[derive(Clone, Copy, PartialEq, Eq, Debug)]
 pub enum Kind {
@@ -47,16 +52,12 @@ impl From<Kind> for u16 {
     }
 }
 
-// A number that no kind has.
-#[derive(Clone, Copy, PartialEq, Eq, Debug)]
-pub struct UnknownKind(pub u16);
-
 impl TryFrom<u16> for Kind {
-    type Error = UnknownKind;
+    type Error = Unknown<u16>;
 
-    ghost try_from_gives = { KindNumbered };
+    ghost try_from_gives = { Numbered kind_number };
 
-    fn try_from(number: u16) -> Result<Kind, UnknownKind> {
+    fn try_from(number: u16) -> Result<Kind, Unknown<u16>> {
         match number {
             1 => Ok(Kind::Primary),
             2 => Ok(Kind::Anchor),
@@ -66,7 +67,7 @@ impl TryFrom<u16> for Kind {
             7 => Ok(Kind::UnallocatedSpace),
             8 => Ok(Kind::Terminating),
             9 => Ok(Kind::Integrity),
-            _ => Err(UnknownKind(number)),
+            _ => Err(Unknown(number)),
         }
     }
 }
@@ -96,23 +97,19 @@ pub enum Access {
     Overwritable = 4,
 }
 
-// A number that no access type has.
-#[derive(Clone, Copy, PartialEq, Eq, Debug)]
-pub struct UnknownAccess(pub u32);
-
 impl TryFrom<u32> for Access {
-    type Error = UnknownAccess;
+    type Error = Unknown<u32>;
 
-    ghost try_from_gives = { AccessNumbered };
+    ghost try_from_gives = { Numbered access_number };
 
-    fn try_from(number: u32) -> Result<Access, UnknownAccess> {
+    fn try_from(number: u32) -> Result<Access, Unknown<u32>> {
         match number {
             0 => Ok(Access::NotStated),
             1 => Ok(Access::ReadOnly),
             2 => Ok(Access::WriteOnce),
             3 => Ok(Access::Rewritable),
             4 => Ok(Access::Overwritable),
-            _ => Err(UnknownAccess(number)),
+            _ => Err(Unknown(number)),
         }
     }
 }
@@ -158,20 +155,16 @@ impl From<Integrity> for u32 {
     }
 }
 
-// A number that says neither open nor closed.
-#[derive(Clone, Copy, PartialEq, Eq, Debug)]
-pub struct UnknownIntegrity(pub u32);
-
 impl TryFrom<u32> for Integrity {
-    type Error = UnknownIntegrity;
+    type Error = Unknown<u32>;
 
-    ghost try_from_gives = { StateNumbered };
+    ghost try_from_gives = { Numbered state_number };
 
-    fn try_from(number: u32) -> Result<Integrity, UnknownIntegrity> {
+    fn try_from(number: u32) -> Result<Integrity, Unknown<u32>> {
         match number {
             0 => Ok(Integrity::Open),
             1 => Ok(Integrity::Closed),
-            _ => Err(UnknownIntegrity(number)),
+            _ => Err(Unknown(number)),
         }
     }
 }

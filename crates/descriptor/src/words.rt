@@ -1,5 +1,5 @@
 // Kinds, states, extents and refusals of descriptors in words.
-use crate::kinds::{Access, Extent, Integrity, Kind, UnknownAccess};
+use crate::kinds::{Access, Extent, Integrity, Kind};
 use crate::refusal::Refusal;
 use std::error::Error;
 use std::fmt;
@@ -37,12 +37,6 @@ impl fmt::Display for Access {
             Access::Rewritable => "rewritable",
             Access::Overwritable => "overwritable",
         })
-    }
-}
-
-impl fmt::Display for UnknownAccess {
-    fn fmt<W: fmt::Write>(&self, f: &mut fmt::Formatter<W>) -> fmt::Result {
-        write!(f, "access type {}", self.0)
     }
 }
 

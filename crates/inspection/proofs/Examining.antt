@@ -13,17 +13,6 @@ use Rattle.recognition.specs.Structure.{structure_in}
 use Rattle.descriptor.proofs.Decoding.{refusals_agree}
 use Rattle.inspection.specs.Findings.{Found, descriptor, structure, refused, blank, other, tag_blank, no_descriptor, at_last, next_place, first_place, examined, Examined}
 
--- findings of different sorts are never one
-abbrev sort : Found → ℕ
-sort (descriptor p d) = 0
-sort (structure s) = 1
-sort (refused f) = 2
-sort blank = 3
-sort other = 4
-
-apart : (f g : Found) → (sort f ≡ sort g → ⊥) → {A : Type 0} → f ≡ g → A
-apart f g differ e = absurd (differ (ap sort e))
-
 place_same : (p q : Place) (d e : Fields) → descriptor p d ≡ descriptor q e → p ≡ q
 place_same p q d e same = cc
 
@@ -34,7 +23,7 @@ reason_same : (x y : Refusal) → refused x ≡ refused y → x ≡ y
 reason_same x y e = cc
 
 clash : {A : Type 0} (r : Result Fields Refusal) (d : Fields) (x : Refusal) → r ≡ Ok d → r ≡ Err x → A
-clash r d x a b = let z : ◌≡◌ {A = ℕ} 0 1 = cc in absurd (omega arith)
+clash r d x a b = cc
 
 module _ (bs : List ℕ) (number : ℕ) where
   -- accepted in a place
@@ -43,7 +32,7 @@ module _ (bs : List ℕ) (number : ℕ) where
     is_descriptor = λ q e same.
         subst (λ w. decoded bs number w ≡ Ok e) (place_same p q d e same) (ok ∙ ap {B = Result Fields Refusal} Ok (fields_same p q d e same));
     descriptor_found = λ _ _ _. (p, d, refl);
-    is_refused = λ why. apart (descriptor p d) (refused why) (omega arith);
+    is_refused = λ why. λ e. cc;
     refused_found = λ none _ _ _. absurd (none p d ok);
   }
 
@@ -65,19 +54,19 @@ module _ (bs : List ℕ) (number : ℕ) where
 
     by_structure : (o : Option Structure) → structure_in bs ≡ o → Examined bs number (no_descriptor bs z o)
     by_structure (Some s) e =
-        undescribed (structure s) (λ p d. apart (structure s) (descriptor p d) (omega arith)) (λ why. apart (structure s) (refused why) (omega arith))
-        (λ n _ _. let k : ◌≡◌ {A = ℕ} 0 1 = cc in absurd (omega arith))
+        undescribed (structure s) (λ p d e. cc) (λ why e. cc)
+        (λ n _ _. cc)
     by_structure None e =
         ⊎_elim
         (λ t. at (cond-true (tag_blank bs) _ _ t)
-        (undescribed blank (λ p d. apart blank (descriptor p d) (omega arith)) (λ why. apart blank (refused why) (omega arith))
-        (λ _ f _. let k : ◌≡◌ {A = ℕ} 0 1 = cc in absurd (omega arith))))
+        (undescribed blank (λ p d e. cc) (λ why e. cc)
+        (λ _ f _. cc)))
         (λ f. ⊎_elim
         (λ t. at (cond-false (tag_blank bs) _ _ f ∙ cond-true (sum_stands bs) _ _ t)
-        (undescribed (refused z) (λ p d. apart (refused z) (descriptor p d) (omega arith)) (λ why same. (reason_same z why same, f, t)) (λ _ _ _. refl)))
+        (undescribed (refused z) (λ p d e. cc) (λ why same. (reason_same z why same, f, t)) (λ _ _ _. refl)))
         (λ g. at (cond-false (tag_blank bs) _ _ f ∙ cond-false (sum_stands bs) _ _ g)
-        (undescribed other (λ p d. apart other (descriptor p d) (omega arith)) (λ why. apart other (refused why) (omega arith))
-        (λ _ _ t. let k : ◌≡◌ {A = ℕ} 0 1 = cc in absurd (omega arith))))
+        (undescribed other (λ p d e. cc) (λ why e. cc)
+        (λ _ _ t. cc)))
         (cases_Bool (sum_stands bs)))
         (cases_Bool (tag_blank bs))
       where

@@ -1,7 +1,9 @@
 // Findings in words, as the tool prints them.
 #![tactic(auto)]
 
-use descriptor::kinds::{Access, BLOCK_BYTES, Descriptor, Extent, Partition, PartitionMap};
+use descriptor::kinds::{
+    Access, BLOCK_BYTES, Descriptor, Extent, Partition, PartitionMap, Unknown,
+};
 use descriptor::serial::{kind_of, serial_of};
 use inspection::finding::Finding;
 use octets::fields::{byte_at, u16_at};
@@ -107,7 +109,7 @@ impl fmt::Display for Allotted {
         write!(f, "partition {number}, ")?;
         match Access::try_from(access) {
             Ok(known) => write!(f, "{known}")?,
-            Err(unknown) => write!(f, "{unknown}")?,
+            Err(Unknown(number)) => write!(f, "access type {number}")?,
         }
         write!(f, ", {count} sectors from {first}")?;
         if self.flags % 2 == 0 {
