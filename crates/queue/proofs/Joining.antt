@@ -1,6 +1,6 @@
 -- A write lands, and a new one joins those that wait.
 -- Assumes nothing.
-use Rattle.std.proofs.Common.{◌≡◌, ℕ, ◌+◌, ◌<◌, ◌≤◌, Bool, true, false, cond, ltb, List, [], ◌∷◌, ◌++◌, length, get_or, take, drop, set, sym, refl, ap, ◌∙◌, not-suc-le-zero, arith}
+use Rattle.std.proofs.Common.{◌≡◌, ℕ, ◌+◌, ◌<◌, ◌≤◌, Bool, true, false, cond, ltb, List, [], ◌∷◌, ◌++◌, length, get_or, take, drop, set, Some, None, Option, sym, refl, ap, ◌∙◌, not-suc-le-zero, arith}
 use Rattle.std.proofs.lemmas.List.{set_at, take_all, take_more_set, length-take-le}
 use Rattle.std.proofs.lemmas.Bool.{lt-ltb, le-ltb, cond-true, cond-false}
 use Rattle.media.specs.Landed.{count_of, stored, putting}
@@ -15,13 +15,13 @@ same_state : (bs bs' : List ℕ) (ws ws' : List Pending) → bs ≡ bs' → ws �
 same_state bs bs' ws ws' p q = λ i. (p i, q i)
 
 -- what a put leaves is what the landing of a write leaves
-second : (b : Bool) (x y : List ℕ) → (cond {A = Bool × List ℕ} b (true, x) (false, y)).1 ≡ cond b x y
+second : (b : Bool) (x y : List ℕ) → (cond {A = Option (Unit {0}) × List ℕ} b (Some tt, x) (None, y)).1 ≡ cond b x y
 second true x y = refl
 second false x y = refl
 
-pub put_lands : (bs after : List ℕ) (w : Pending) (r : Bool) → ◌≡◌ {A = Bool × List ℕ} (r, after) (putting w.sector w.bytes bs) → after ≡ landing bs w
+pub put_lands : (bs after : List ℕ) (w : Pending) (r : Option (Unit {0})) → ◌≡◌ {A = Option (Unit {0}) × List ℕ} (r, after) (putting w.sector w.bytes bs) → after ≡ landing bs w
 unfolding landing
-put_lands bs after w r e = ap (λ (p : Bool × List ℕ). p.1) e ∙ second (ltb w.sector (count_of bs)) (stored w.sector w.bytes bs) bs
+put_lands bs after w r e = ap (λ (p : Option (Unit {0}) × List ℕ). p.1) e ∙ second (ltb w.sector (count_of bs)) (stored w.sector w.bytes bs) bs
 
 -- no slots: the new write lands at once
 pub none_full : (bs after : List ℕ) (ws : List Pending) (new : Pending) → length ws ≡ 0 → after ≡ landing bs new → ◌≡◌ {A = State} (after, ws) (oldest_landed bs (ws ++ new ∷ []))

@@ -97,9 +97,11 @@ impl Device for Queue {
     }
 
     fn read(&self, sector: u32, area: &mut Sector) -> Result<(), DeviceFault> {
-        if !self.store.get(sector, area) {
-            return Err(off_device(Layer::Queue, sector));
-        }
+        let bytes = self
+            .store
+            .get(sector)
+            .ok_or(off_device(Layer::Queue, sector))?;
+        *area = *bytes;
         lay_over(self.pending(), sector, area);
         Ok(())
     }
