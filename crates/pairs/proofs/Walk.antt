@@ -1,10 +1,10 @@
 -- Pairs gone through from the first on: one step, and the end.
 -- Assumes nothing.
-use Rattle.std.proofs.Common.{◌≡◌, ℕ, ◌+◌, ◌-◌, ◌<◌, ◌≤◌, min, true, false, ◌||◌, ltb, List, length, get_or, drop, Some, None, ◌∙◌, subst}
+use Rattle.std.proofs.Common.{◌≡◌, ℕ, ◌+◌, ◌-◌, ◌<◌, ◌≤◌, true, ltb, List, length, get_or, drop, Some, None, ◌∙◌, subst}
 use Rattle.std.proofs.lemmas.List.{drop_more, at_drop_more, at_drop_all}
 use Rattle.std.proofs.lemmas.Bool.{cond-true, cond-false, lt-ltb, le-ltb}
 use Rattle.pairs.specs.declared.pair.Pair.{Pair}
-use Rattle.pairs.specs.Pairs.{pair_end, in_order, place, holds, within, reached}
+use Rattle.pairs.specs.Pairs.{in_order, place}
 use Rattle.pairs.proofs.Ordering.{Order, order}
 
 -- what stands past the last pair
@@ -24,24 +24,7 @@ module _ (ps : List Pair) (i : ℕ) (more : i < length ps) where
   unfolding place
   place_on s le = at_drop_more (λ l. place l s) ps i nothing more ∙ cond-false (ltb s (get_or ps i nothing).length) _ _ (le-ltb _ _ le)
 
-  -- whether this pair holds a sector, and else whether a later one does
-  pub within_at : (s : ℕ) → within (drop i ps) s ≡ (holds (get_or ps i nothing) s || within (drop (i + 1) ps) s)
-  unfolding within
-  within_at s = at_drop_more (λ l. within l s) ps i nothing more
-
-  pub reached_at : (n : ℕ) → reached (drop i ps) n ≡ (min (pair_end (get_or ps i nothing)) n - (get_or ps i nothing).offset) + reached (drop (i + 1) ps) n
-  unfolding reached
-  reached_at n = at_drop_more (λ l. reached l n) ps i nothing more
-
 module _ (ps : List Pair) (i : ℕ) (all : length ps ≤ i) where
   pub place_out : (s : ℕ) → place (drop i ps) s ≡ None
   unfolding place
   place_out s = at_drop_all (λ l. place l s) ps i all
-
-  pub within_out : (s : ℕ) → within (drop i ps) s ≡ false
-  unfolding within
-  within_out s = at_drop_all (λ l. within l s) ps i all
-
-  pub reached_out : (n : ℕ) → reached (drop i ps) n ≡ 0
-  unfolding reached
-  reached_out n = at_drop_all (λ l. reached l n) ps i all
