@@ -1,3 +1,2 @@
-pub mod Scanning
-pub mod Joining
+pub mod LandingLemmas
 pub mod Losing

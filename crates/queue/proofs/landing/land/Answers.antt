@@ -1,5 +1,5 @@
 use Rattle.media.specs.Stores.{bytes_of}
-use Rattle.queue.proofs.Joining.{put_lands}
+use Rattle.queue.proofs.LandingLemmas.{put_lands}
 use Rattle.queue.proofs.landing.land.Goals as goal
 
 pub returns : goal.returns
