@@ -1,16 +1,14 @@
 -- The image device: its model, its reads and its writes.
 -- Assumes nothing.
-use Rattle.std.specs.Prelude.{◌≡◌, ℕ, ◌^◌, ◌<◌, List, length, Some, None, Ok, Option, nat_lt, refl}
+use Rattle.std.specs.Prelude.{◌≡◌, ℕ, ◌^◌, ◌<◌, List, length, Some, None, Option, nat_lt, refl}
 use Rattle.std.specs.Borrow.{Bor}
 use Rattle.std.specs.Option.{option_copied}
 use Rattle.std.proofs.Common.{⊎_elim, sym, ap, ◌∙◌, subst, arith}
 use Rattle.std.proofs.lemmas.Bool.{lt-ltb, le-ltb, cases_lt, cond-true, cond-false}
 use Rattle.descriptor.specs.Limits.{sector_bytes}
 use Rattle.device.specs.Content.{Whole, only}
-use Rattle.device.specs.Faults.{Origins}
 use Rattle.device.specs.Model.{Sound}
-use Rattle.device.specs.Calls.{Answer, refused, filled, reading, done, skip, Written, counted}
-use Rattle.device.specs.declared.fault.Reason.TheVariants.{OffDevice}
+use Rattle.device.specs.Calls.{done, skip, Written, counted}
 use Rattle.media.specs.Landed.{count_of, sector_of, landed, stored, getting, putting, image_model}
 use Rattle.media.specs.Sectors.{sector_long, landed_there, landed_past, landed_here, landed_elsewhere, count_stored}
 
@@ -49,15 +47,6 @@ image_sound bs tally fits = record {
   whole = λ s. (landed_whole bs s, tt);
   past = λ s h. ap only (landed_past bs s h);
 }
-
--- a read that finds a sector
-pub reading_there :
-    (bs : List ℕ) (s tally : ℕ) (from : Origins) (area after : List ℕ) → s < count_of bs → after ≡ sector_of bs s →
-    ◌≡◌ {A = Answer × List ℕ} (Ok tt, after) (reading (image_model bs tally) from s area)
-reading_there bs s tally from area after h e =
-    ap (λ (l : List ℕ). (Ok tt, l)) e
-    ∙ (ap (filled from s area) (sym (landed_there bs s h))
-    ∙ sym (cond-true (nat_lt s (count_of bs)) (filled from s area (landed bs s)) (refused from OffDevice s, area) (lt-ltb s (count_of bs) h)))
 
 -- a write that lands
 pub image_written :

@@ -57,6 +57,7 @@ impl Device for Image {
         sector < self.store.count()
     }
 
+    #[tactic(auto, unfolding(crate::specs::Landed::landed))]
     fn read(&self, sector: u32, area: &mut Sector) -> Result<(), DeviceFault> {
         let bytes = self
             .store

@@ -5,6 +5,7 @@ ghost use Rattle.pairs.specs.Pairs.{in_order, place, within};
 use crate::pair::Pair;
 
 // The sector below that has a number among the pairs' sectors.
+#[tactic(auto, unfolding(crate::specs::Pairs::place))]
 pub(crate) fn place_of(pairs: &[Pair], sector: u32) -> Option<u32>
     requires { in_order 0 pairs.now ≡ true }
     ensures { result ≡ place pairs.now sector }

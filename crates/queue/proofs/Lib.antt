@@ -1,2 +1,1 @@
-pub mod LandingLemmas
 pub mod Losing

@@ -57,14 +57,6 @@ abbrev pub oldest_landed : List ℕ → List Pending → List ℕ × List Pendin
 oldest_landed bs [] = (bs, [])
 oldest_landed bs (w ∷ ws) = (landing bs w, ws)
 
--- a new write put behind the others: what comes out where they filled all slots, and what waits then
-abbrev pub first_out : List Pending → Option Pending × List Pending
-first_out [] = (None, [])
-first_out (w ∷ ws) = (Some w, ws)
-
-abbrev pub pushed : ℕ → Pending → List Pending → Option Pending × List Pending
-pushed slots new ws = cond (nat_lt (length ws) slots) (None, ws ++ new ∷ []) (first_out (ws ++ new ∷ []))
-
 -- the same after a new write was accepted: it waits behind the others; where they fill all slots, the oldest of all lands
 abbrev pub accepted : ℕ → Pending → List ℕ → List Pending → List ℕ × List Pending
 accepted slots new bs ws = cond (nat_lt (length ws) slots) (bs, ws ++ new ∷ []) (oldest_landed bs (ws ++ new ∷ []))
@@ -73,6 +65,15 @@ accepted slots new bs ws = cond (nat_lt (length ws) slots) (bs, ws ++ new ∷ []
 abbrev pub after_write : Answer → ℕ → Pending → List ℕ → List Pending → List ℕ × List Pending
 after_write (Ok done) slots new bs ws = accepted slots new bs ws
 after_write (Err fault) slots new bs ws = (bs, ws)
+
+-- the first of some writes, and the others
+abbrev pub first_out : List Pending → Option Pending × List Pending
+first_out [] = (None, [])
+first_out (w ∷ ws) = (Some w, ws)
+
+-- a new write put behind those that wait: the oldest of all, where they filled all slots, and what waits then
+abbrev pub pushed : ℕ → Pending → List Pending → Option Pending × List Pending
+pushed slots new ws = cond (nat_lt (length ws) slots) (None, ws ++ new ∷ []) (first_out (ws ++ new ∷ []))
 
 -- a write to one of n sectors, with a sector's bytes
 abbrev pub well_formed : ℕ → Pending → Bool

@@ -7,6 +7,7 @@ use crate::pending::Pending;
 use media::store::Store;
 
 // Lands a write.
+#[tactic(auto, unfolding(crate::specs::Waiting::landing))]
 pub(crate) fn land(store: &mut Store, write: &Pending)
     ensures { bytes_of store.new ≡ landing (bytes_of store.old) write.now }
 {
