@@ -1,9 +1,9 @@
 -- Sectors that lie one behind the other in a run of bytes.
-use Rattle.std.specs.Prelude.{ℕ, ◌*◌, ◌/◌, min, Bool, true, false, cond, List, length, nat_lt}
+use Rattle.std.specs.Prelude.{ℕ, ◌*◌, ◌/◌, min, true, cond, List, length, Some, None, Option, nat_lt}
 use Rattle.octets.specs.Fields.{part, put}
 use Rattle.descriptor.specs.Limits.{sector_bytes}
 use Rattle.device.specs.Content.{Content, unreadable, holding, only}
-use Rattle.device.specs.Faults.{Origins}
+use Rattle.device.specs.Faults.{Origins, arising}
 use Rattle.device.specs.Model.{Model}
 use Rattle.device.specs.declared.fault.DeviceFault.{DeviceFault}
 use Rattle.device.specs.declared.fault.Layer.{Layer}
@@ -26,13 +26,13 @@ landed bs s = cond (nat_lt s (count_of bs)) (holding (sector_of bs s)) unreadabl
 abbrev pub stored : ℕ → List ℕ → List ℕ → List ℕ
 stored s bytes bs = put (sector_bytes * s) bytes bs
 
--- whether there is such a sector, and the caller's area after it was filled with the sector's bytes
-abbrev pub getting : List ℕ → ℕ → List ℕ → Bool × List ℕ
-getting bs s area = cond (nat_lt s (count_of bs)) (true, sector_of bs s) (false, area)
+-- a sector's bytes, if there is one
+abbrev pub getting : List ℕ → ℕ → Option (List ℕ)
+getting bs s = cond (nat_lt s (count_of bs)) (Some (sector_of bs s)) None
 
 -- whether there is such a sector, and the run after the sector was put into it
-abbrev pub putting : ℕ → List ℕ → List ℕ → Bool × List ℕ
-putting s bytes bs = cond (nat_lt s (count_of bs)) (true, stored s bytes bs) (false, bs)
+abbrev pub putting : ℕ → List ℕ → List ℕ → Option (Unit {0}) × List ℕ
+putting s bytes bs = cond (nat_lt s (count_of bs)) (Some tt, stored s bytes bs) (None, bs)
 
 -- a device on which every write lands at once: each list has one content, and every sector takes writes
 abbrev pub image_model : List ℕ → ℕ → Model
@@ -48,7 +48,7 @@ abbrev pub origins_at : Layer → Origins
 origins_at layer why s = record { layer = layer; depth = 0; sector = s }
 
 abbrev pub off_device : Layer → ℕ → DeviceFault
-off_device layer s = record { reason = OffDevice; origin = origins_at layer OffDevice s }
+off_device layer s = arising OffDevice layer s
 
 abbrev pub image_origins : Origins
 image_origins = origins_at Image

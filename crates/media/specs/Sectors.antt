@@ -1,13 +1,17 @@
 -- Laws of sectors in a run of bytes: a sector put is read back, and every other is as it was.
 -- Assumes nothing.
-use Rattle.std.specs.Prelude.{◌≡◌, ℕ, ◌+◌, ◌*◌, ◌<◌, ◌≤◌, Bool, true, false, ◌≢◌, List, length, drop, nat_lt, slice_index}
+use Rattle.std.specs.Prelude.{◌≡◌, ℕ, ◌+◌, ◌*◌, ◌<◌, ◌≤◌, ◌≢◌, List, length, drop, Some, None, Ok, Err, Option, Result, IsOk, MatchResult, nat_lt, slice_index}
+use Rattle.std.specs.Array.{IsWholeChunk}
+use Rattle.std.specs.Borrow.{Bor}
+use Rattle.std.specs.Option.{option_copied}
+use Rattle.std.specs.Result.{result_ok}
 use Rattle.std.proofs.Common.{⊎_elim, sym, ap, ◌∙◌, arith}
 use Rattle.std.proofs.lemmas.List.{length-take, length-drop, get_or-take, get_or-drop, ext_get_or}
 use Rattle.std.proofs.lemmas.Bool.{lt-ltb, le-ltb, cases_lt, cond-true, cond-false}
 use Rattle.octets.proofs.Runs.{puts}
 use Rattle.descriptor.specs.Limits.{sector_bytes}
 use Rattle.device.specs.Content.{unreadable, holding}
-use Rattle.media.specs.Landed.{count_of, sector_of, landed, stored, getting, putting}
+use Rattle.media.specs.Landed.{count_of, sector_of, landed, stored, getting}
 
 -- a sector below the count lies inside the run
 pub sector_long : (bs : List ℕ) (s : ℕ) → s < count_of bs → length (sector_of bs s) ≡ sector_bytes
@@ -17,14 +21,13 @@ sector_long bs s h = simp (length-take, length-drop) (omega arith)
 sector_byte : (bs : List ℕ) (s k : ℕ) → k < sector_bytes → slice_index (sector_of bs s) k ≡ slice_index bs (sector_bytes * s + k)
 sector_byte bs s k h = get_or-take sector_bytes (drop (sector_bytes * s) bs) k 0 h ∙ get_or-drop (sector_bytes * s) bs k 0
 
--- the answer where there is such a sector
-pub getting_there : (bs : List ℕ) (s : ℕ) (area bytes : List ℕ) → s < count_of bs → bytes ≡ sector_of bs s → (◌≡◌ {A = Bool × List ℕ} (true, bytes) (getting bs s area))
-getting_there bs s area bytes h e =
-    ap (λ (l : List ℕ). (true, l)) e ∙ sym (cond-true (nat_lt s (count_of bs)) (true, sector_of bs s) (false, area) (lt-ltb s (count_of bs) h))
-
-pub putting_there : (s : ℕ) (bytes bs after : List ℕ) → s < count_of bs → after ≡ stored s bytes bs → (◌≡◌ {A = Bool × List ℕ} (true, after) (putting s bytes bs))
-putting_there s bytes bs after h e =
-    ap (λ (l : List ℕ). (true, l)) e ∙ sym (cond-true (nat_lt s (count_of bs)) (true, stored s bytes bs) (false, bs) (lt-ltb s (count_of bs) h))
+-- a sector is found
+pub sector_found :
+    {F : Type 0} (bs chunk : List ℕ) (s n : ℕ) (other : F → Type 0) (r : Result (Bor (List ℕ)) F) →
+    IsOk r → MatchResult r (λ y. IsWholeChunk chunk y.now n) other → s < count_of bs → chunk ≡ sector_of bs s → option_copied (result_ok r) ≡ getting bs s
+sector_found bs chunk s n other (Ok y) ok whole h e =
+    ap {B = Option (List ℕ)} Some (whole.same ∙ e) ∙ sym (cond-true (nat_lt s (count_of bs)) (Some (sector_of bs s)) None (lt-ltb s (count_of bs) h))
+sector_found bs chunk s n other (Err f) ok whole h e = cc
 
 -- a sector is put
 module _ (s : ℕ) (bytes bs : List ℕ) where

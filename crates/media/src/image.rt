@@ -57,12 +57,14 @@ impl Device for Image {
         sector < self.store.count()
     }
 
+    #[tactic(auto, unfolding(crate::specs::Landed::landed))]
     fn read(&self, sector: u32, area: &mut Sector) -> Result<(), DeviceFault> {
-        if self.store.get(sector, area) {
-            Ok(())
-        } else {
-            Err(off_device(Layer::Image, sector))
-        }
+        let bytes = self
+            .store
+            .get(sector)
+            .ok_or(off_device(Layer::Image, sector))?;
+        *area = *bytes;
+        Ok(())
     }
 
     fn write(&mut self, sector: u32, bytes: &Sector) -> Result<(), DeviceFault>
@@ -71,9 +73,9 @@ impl Device for Image {
         ensures origin { image_origins ≡ image_origins }
         ensures lands { bytes_of self.new.store ≡ (if is_ok result then stored sector bytes.now (bytes_of self.old.store) else bytes_of self.old.store) }
     {
-        if !self.store.put(sector, bytes) {
-            return Err(off_device(Layer::Image, sector));
-        }
+        self.store
+            .put(sector, bytes)
+            .ok_or(off_device(Layer::Image, sector))?;
         self.tally = self.tally.wrapping_add(1);
         Ok(())
     }

@@ -2,19 +2,11 @@
 ghost use Rattle.std.specs.Prelude.{◌≡◌};
 ghost use Rattle.media.specs.Landed.{off_device};
 
-use device::fault::{DeviceFault, Layer, Origin, Reason};
+use device::fault::{DeviceFault, Layer, Reason};
 
 // There is no such sector.
 pub fn off_device(layer: Layer, sector: u32) -> DeviceFault
     ensures { result ≡ off_device layer sector }
 {
-    let origin = Origin {
-        layer,
-        depth: 0,
-        sector,
-    };
-    DeviceFault {
-        reason: Reason::OffDevice,
-        origin,
-    }
+    DeviceFault::arising(Reason::OffDevice, layer, sector)
 }

@@ -1,5 +1,6 @@
 // Sectors that lie one behind the other in bytes of the caller.
-ghost use Rattle.std.specs.Prelude.{◌≡◌};
+ghost use Rattle.std.specs.Prelude.{◌≡◌, ◌*◌, ◌<◌};
+ghost use Rattle.std.specs.Option.{SomeIff, option_copied};
 ghost use Rattle.media.specs.Landed.{count_of, getting, putting};
 ghost use Rattle.media.specs.Stores.{bytes_of};
 
@@ -32,30 +33,30 @@ impl Store {
     pub fn count(&self) -> u32
         ensures { result ≡ count_of (bytes_of self.now) }
     {
-        let whole = self.bytes.len() / SECTOR_BYTES;
-        whole.min(u32::MAX as usize) as u32
+        u32::try_from(self.bytes.len() / SECTOR_BYTES).unwrap_or(u32::MAX)
     }
 
-    // Fills the area with a sector's bytes, or answers false where there is no such sector.
-    pub fn get(&self, sector: u32, area: &mut Sector) -> bool
-        ensures { (result, area.new) ≡ getting (bytes_of self.now) sector area.old }
+    // Where a sector begins, if there is one.
+    fn start_of(&self, sector: u32) -> Option<usize>
+        ensures { SomeIff result (sector < count_of (bytes_of self.now)) (2048 * sector) }
     {
-        if sector >= self.count() {
-            return false;
-        }
-        let from = SECTOR_BYTES * sector as usize;
-        area.copy_from_slice(&self.bytes[from..from + SECTOR_BYTES]);
-        true
+        (sector < self.count()).then_some(SECTOR_BYTES * sector as usize)
     }
 
-    // Puts a sector's bytes, or answers false where there is no such sector.
-    pub fn put(&mut self, sector: u32, bytes: &Sector) -> bool
+    // A sector's bytes, if there is one.
+    pub fn get(&self, sector: u32) -> Option<&Sector>
+        ensures { option_copied result ≡ getting (bytes_of self.now) sector }
+    {
+        let from = self.start_of(sector)?;
+        self.bytes[from..from + SECTOR_BYTES].try_into().ok()
+    }
+
+    // Puts a sector's bytes, if there is one.
+    pub fn put(&mut self, sector: u32, bytes: &Sector) -> Option<()>
         ensures { (result, bytes_of self.new) ≡ putting sector bytes.now (bytes_of self.old) }
     {
-        if sector >= self.count() {
-            return false;
-        }
-        put_bytes(&mut self.bytes, SECTOR_BYTES * sector as usize, bytes);
-        true
+        let at = self.start_of(sector)?;
+        put_bytes(&mut self.bytes, at, bytes);
+        Some(())
     }
 }

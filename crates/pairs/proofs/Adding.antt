@@ -1,6 +1,6 @@
 -- When a pair is accepted.
 -- Assumes nothing.
-use Rattle.std.proofs.Common.{◌≡◌, ℕ, ◌<◌, ◌≤◌, Bool, true, false, ◌||◌, eqb, ltb, leb, List, [], ◌∷◌, ◌++◌, length, Ok, Err, Result, sym, refl, ap, ◌∙◌, subst, ⊎_elim, arith}
+use Rattle.std.proofs.Common.{◌≡◌, ℕ, ◌<◌, ◌≤◌, Bool, true, false, ◌||◌, eqb, ltb, leb, List, [], ◌∷◌, ◌++◌, length, Ok, Err, Result, sym, refl, ◌∙◌, subst, ⊎_elim, arith}
 use Rattle.std.specs.List.{AllByRecursion}
 use Rattle.std.proofs.lemmas.Bool.{cases_Bool, cond-true, cond-false, or_cases, or_parts, or_from, leb-true, leb-false, lt-leb, ltb-true, ltb-false, le-ltb, eqb-true, eqb-false, ne_eqb}
 use Rattle.pairs.specs.declared.pair.Pair.{Pair}
@@ -66,61 +66,46 @@ module _ (ps : List Pair) (p : Pair) (n : ℕ) where
   accepted_from few long behind on =
       accepted_pair (or_from (leb most_pairs (length ps)) (eqb p.length 0) (lt-leb _ _ few) (ne_eqb _ _ (λ e. omega arith))) (le-ltb _ _ behind) (le-ltb _ _ on)
 
--- two answers of different sorts are never one
-abbrev sort : Result (Unit {0}) PairFault → ℕ
-sort (Ok x) = 0
-sort (Err OffLimits) = 1
-sort (Err OutOfOrder) = 2
-sort (Err PastTheEnd) = 3
-
-apart : (r s : Result (Unit {0}) PairFault) → (sort r ≡ sort s → ⊥) → {A : Type 0} → r ≡ s → A
-apart r s other e = absurd (other (ap sort e))
-
 module _ (ps : List Pair) (p : Pair) (n : ℕ) where
   limits_fail : (WithinLimits ps p → ⊥) → Adding ps p n (Err OffLimits) ps
   limits_fail none = record {
-    accepted = (apart (Err OffLimits) (Ok tt) (omega arith), λ h. absurd (none h.0));
+    accepted = (λ e. cc, λ h. absurd (none h.0));
     off_limits = (λ _. none, λ _. refl);
-    out_of_order = (apart (Err OffLimits) (Err OutOfOrder) (omega arith), λ h. absurd (none h.0));
-    past_the_end = (apart (Err OffLimits) (Err PastTheEnd) (omega arith), λ h. absurd (none h.0));
-    then = apart (Err OffLimits) (Ok tt) (omega arith);
+    out_of_order = (λ e. cc, λ h. absurd (none h.0));
+    past_the_end = (λ e. cc, λ h. absurd (none h.0));
+    then = λ e. cc;
     else = λ _ _. refl;
   }
 
   order_fails : WithinLimits ps p → (Behind ps p → ⊥) → Adding ps p n (Err OutOfOrder) ps
   order_fails w none = record {
-    accepted = (apart (Err OutOfOrder) (Ok tt) (omega arith), λ h. absurd (none h.1));
-    off_limits = (apart (Err OutOfOrder) (Err OffLimits) (omega arith), λ h. absurd (h w));
+    accepted = (λ e. cc, λ h. absurd (none h.1));
+    off_limits = (λ e. cc, λ h. absurd (h w));
     out_of_order = (λ _. (w, none), λ _. refl);
-    past_the_end = (apart (Err OutOfOrder) (Err PastTheEnd) (omega arith), λ h. absurd (none h.1));
-    then = apart (Err OutOfOrder) (Ok tt) (omega arith);
+    past_the_end = (λ e. cc, λ h. absurd (none h.1));
+    then = λ e. cc;
     else = λ _ _. refl;
   }
 
   end_fails : WithinLimits ps p → Behind ps p → (OnDevice p n → ⊥) → Adding ps p n (Err PastTheEnd) ps
   end_fails w b none = record {
-    accepted = (apart (Err PastTheEnd) (Ok tt) (omega arith), λ h. absurd (none h.2));
-    off_limits = (apart (Err PastTheEnd) (Err OffLimits) (omega arith), λ h. absurd (h w));
-    out_of_order = (apart (Err PastTheEnd) (Err OutOfOrder) (omega arith), λ h. absurd (h.1 b));
+    accepted = (λ e. cc, λ h. absurd (none h.2));
+    off_limits = (λ e. cc, λ h. absurd (h w));
+    out_of_order = (λ e. cc, λ h. absurd (h.1 b));
     past_the_end = (λ _. (w, b, none), λ _. refl);
-    then = apart (Err PastTheEnd) (Ok tt) (omega arith);
+    then = λ e. cc;
     else = λ _ _. refl;
   }
 
   all_hold : WithinLimits ps p → Behind ps p → OnDevice p n → Adding ps p n (Ok tt) (ps ++ p ∷ [])
   all_hold w b d = record {
     accepted = (λ _. (w, b, d), λ _. refl);
-    off_limits = (apart (Ok tt) (Err OffLimits) (omega arith), λ h. absurd (h w));
-    out_of_order = (apart (Ok tt) (Err OutOfOrder) (omega arith), λ h. absurd (h.1 b));
-    past_the_end = (apart (Ok tt) (Err PastTheEnd) (omega arith), λ h. absurd (h.2 d));
+    off_limits = (λ e. cc, λ h. absurd (h w));
+    out_of_order = (λ e. cc, λ h. absurd (h.1 b));
+    past_the_end = (λ e. cc, λ h. absurd (h.2 d));
     then = λ _. refl;
-    else = λ f. apart (Ok tt) (Err f) (differs f);
+    else = λ f e. cc;
   }
-    where
-      differs : (f : PairFault) → ◌≡◌ {A = ℕ} 0 (sort (Err f)) → ⊥
-      differs OffLimits e = omega arith
-      differs OutOfOrder e = omega arith
-      differs PastTheEnd e = omega arith
 
   pub adding : in_order 0 ps ≡ true → (r : Result (Unit {0}) PairFault) (after : List Pair) → ◌≡◌ {A = Result (Unit {0}) PairFault × List Pair} (r, after) (added ps p n) → Adding ps p n r after
   adding ordered r after e = ⊎_elim (λ a. by (e ∙ refused_limits ps p n a) (limits_fail (outside_limits ps p a))) limits_hold (cases_Bool (off_limits ps p))

@@ -1,6 +1,10 @@
 -- Pairs in their order.
 -- Assumes nothing.
-use Rattle.std.proofs.Common.{◌≡◌, ℕ, ◌+◌, ◌-◌, ◌^◌, ◌<◌, ◌≤◌, min, true, ltb, leb, List, [], ◌∷◌, ◌++◌, refl, ⊎_elim, arith}
+use Rattle.std.proofs.Common.{◌≡◌, ℕ, ◌+◌, ◌-◌, ◌^◌, ◌<◌, ◌≤◌, min, true, ltb, leb, List, [], ◌∷◌, ◌++◌, length, refl, ⊎_elim, arith}
+use native.Mathlib.Numerals.{unary_clauses}
+use Rattle.std.specs.List.{slice_get}
+use Rattle.std.specs.Option.{option_map_or}
+use Rattle.std.proofs.lemmas.List.Sums.{sum_by-cons}
 use Rattle.std.proofs.lemmas.Bool.{leb-true, ltb-true, le-leb, lt-ltb, and_parts, and_from, cases_lt}
 use Rattle.pairs.specs.declared.pair.Pair.{Pair}
 use Rattle.pairs.specs.Pairs.{pair_end, end_after, in_order, reached}
@@ -35,14 +39,29 @@ pub end_after_push : (from : ℕ) (ps : List Pair) (p : Pair) → end_after from
 end_after_push from [] p = refl
 end_after_push from (q ∷ qs) p = end_after_push (pair_end q) qs p
 
+-- where the last pair ends
+pub end_last : (from : ℕ) (ps : List Pair) → end_after from ps ≡ option_map_or pair_end (slice_get ps (length ps - 1)) from
+end_last from [] = refl
+end_last from (p ∷ []) = refl
+end_last from (p ∷ q ∷ qs) = simp unary_clauses (simp unary_clauses at (end_last from (q ∷ qs)))
+
+-- how many sectors of no pair, and of a first pair and the rest
+pub reached_nil : (n : ℕ) → reached [] n ≡ 0
+unfolding reached
+reached_nil n = refl
+
+pub reached_cons : (p : Pair) (ps : List Pair) (n : ℕ) → reached (p ∷ ps) n ≡ (min (pair_end p) n - p.offset) + reached ps n
+unfolding reached
+reached_cons p ps n = sum_by-cons (λ q. min (pair_end q) n - q.offset) p ps
+
 -- of pairs that start past a device it has no sector, and it never has more than it has
 pub reached_none : (from : ℕ) (ps : List Pair) (n : ℕ) → in_order from ps ≡ true → n ≤ from → reached ps n ≡ 0
-unfolding reached
-reached_none from [] n h le = refl
+reached_none from [] n h le = reached_nil n
 reached_none from (p ∷ ps) n h le =
     let o = order from p ps h in
     let start = o.start in
     let rest = reached_none (pair_end p) ps n o.rest (omega arith) in
+    let step = reached_cons p ps n in
     omega arith
 
 -- one step: what holds of the rest holds with one pair more
@@ -62,6 +81,7 @@ reached_step from p ps n o le later = ⊎_elim past inside (cases_lt n (pair_end
         omega arith
 
 pub reached_most : (from : ℕ) (ps : List Pair) (n : ℕ) → in_order from ps ≡ true → from ≤ n → from + reached ps n ≤ n
-unfolding reached
-reached_most from [] n h le = omega arith
-reached_most from (p ∷ ps) n h le = let o = order from p ps h in reached_step from p ps n o le (λ ge. reached_most (pair_end p) ps n o.rest ge)
+reached_most from [] n h le = omega (arith, reached_nil n)
+reached_most from (p ∷ ps) n h le =
+    let o = order from p ps h in
+    rw (reached_cons p ps n) (reached_step from p ps n o le (λ ge. reached_most (pair_end p) ps n o.rest ge))

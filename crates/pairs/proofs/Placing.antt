@@ -9,7 +9,7 @@ use Rattle.pairs.specs.declared.pair.Pair.{Pair}
 use Rattle.pairs.specs.declared.fault.PairFault.{PairFault}
 use Rattle.pairs.specs.Pairs.{pair_end, end_after, in_order, place, reached}
 use Rattle.pairs.specs.Law.{run, sectors, Adding}
-use Rattle.pairs.proofs.Ordering.{order, end_after_push, reached_none}
+use Rattle.pairs.proofs.Ordering.{order, end_after_push, reached_nil, reached_cons, reached_none}
 use Rattle.pairs.proofs.Adding.{end_grows}
 
 -- a number among the sectors of a first pair, or of those behind it
@@ -52,10 +52,11 @@ place_one from (p ∷ ps) s u t h e f =
 
 -- a sector is one of those that the device has exactly if the device has it below
 pub reached_only : (from : ℕ) (ps : List Pair) (n s t : ℕ) → in_order from ps ≡ true → place ps s ≡ Some t → s < reached ps n → t < n
-unfolding place reached
+unfolding place
 reached_only from [] n s t h e lt = absurd (none_some t e)
 reached_only from (p ∷ ps) n s t h e lt =
     let o = order from p ps h in
+    let step = reached_cons p ps n in
     ⊎_elim
     (λ x. let a = x.0 in let b = x.1 in ⊎_elim
     (λ past. let none : reached ps n ≡ 0 = reached_none (pair_end p) ps n o.rest (omega arith) in omega arith)
@@ -68,10 +69,11 @@ reached_only from (p ∷ ps) n s t h e lt =
     (place_split p ps s t e)
 
 pub reached_every : (from : ℕ) (ps : List Pair) (n s t : ℕ) → in_order from ps ≡ true → place ps s ≡ Some t → t < n → s < reached ps n
-unfolding place reached
+unfolding place
 reached_every from [] n s t h e lt = absurd (none_some t e)
 reached_every from (p ∷ ps) n s t h e lt =
     let o = order from p ps h in
+    let step = reached_cons p ps n in
     ⊎_elim
     (λ x. let a = x.0 in let b = x.1 in omega arith)
     (λ x.
@@ -89,9 +91,10 @@ reached_as ps n s t h e =
 
 -- a number that none of the pairs' sectors has
 pub reached_out : (ps : List Pair) (n s : ℕ) → place ps s ≡ None → reached ps n ≤ s
-unfolding place reached
-reached_out [] n s e = omega arith
+unfolding place
+reached_out [] n s e = omega (arith, reached_nil n)
 reached_out (p ∷ ps) n s e =
+    let step = reached_cons p ps n in
     ⊎_elim
     (λ lt. absurd (none_some (p.offset + s) (sym e ∙ cond-true (ltb s p.length) _ _ (lt-ltb _ _ lt))))
     (λ le. let rest : reached ps n ≤ s - p.length = reached_out ps n (s - p.length) (sym (cond-false (ltb s p.length) _ _ (le-ltb _ _ le)) ∙ e) in omega arith)
@@ -103,10 +106,10 @@ length_run first zero = refl
 length_run first (suc n) = ap suc (length_run (suc first) n)
 
 pub reached_all : (from : ℕ) (ps : List Pair) (n : ℕ) → in_order from ps ≡ true → end_after from ps ≤ n → reached ps n ≡ length (sectors ps)
-unfolding reached
-reached_all from [] n h le = refl
+reached_all from [] n h le = reached_nil n
 reached_all from (p ∷ ps) n h le =
     let o = order from p ps h in
+    let step = reached_cons p ps n in
     let grows : pair_end p ≤ end_after (pair_end p) ps = end_grows (pair_end p) ps o.rest in
     let rest : reached ps n ≡ length (sectors ps) = reached_all (pair_end p) ps n o.rest le in
     let long : length (run p.offset p.length ++ sectors ps) ≡ length (run p.offset p.length) + length (sectors ps) = length-append (run p.offset p.length) (sectors ps) in

@@ -1,5 +1,6 @@
 -- Pairs of offset and length, in their order: which may be added, and the sectors that they hold.
-use Rattle.std.specs.Prelude.{ℕ, ◌+◌, ◌-◌, ◌^◌, min, Bool, true, false, cond, ◌&&◌, ◌||◌, List, [], ◌∷◌, ◌++◌, length, Some, None, Ok, Err, Option, Result, ◌==◌, nat_le, nat_lt}
+use Rattle.std.specs.Prelude.{ℕ, ◌+◌, ◌-◌, ◌^◌, min, Bool, true, cond, ◌&&◌, ◌||◌, List, [], ◌∷◌, ◌++◌, length, Some, None, Ok, Err, Option, Result, ◌==◌, nat_le, nat_lt}
+use Rattle.std.specs.List.{list_any, sum_by}
 use Rattle.pairs.specs.declared.pair.Pair.{Pair}
 use Rattle.pairs.specs.declared.fault.PairFault.{PairFault}
 use Rattle.pairs.specs.declared.fault.PairFault.TheVariants.{OffLimits, OutOfOrder, PastTheEnd}
@@ -40,10 +41,8 @@ abbrev pub holds : Pair → ℕ → Bool
 holds p s = nat_le p.offset s && nat_lt s (pair_end p)
 
 unfoldable pub within : List Pair → ℕ → Bool
-within [] s = false
-within (p ∷ ps) s = holds p s || within ps s
+within ps s = list_any (λ p. holds p s) ps
 
 -- how many of the pairs' sectors a device of n sectors has
 unfoldable pub reached : List Pair → ℕ → ℕ
-reached [] n = 0
-reached (p ∷ ps) n = (min (pair_end p) n - p.offset) + reached ps n
+reached ps n = sum_by (λ p. min (pair_end p) n - p.offset) ps

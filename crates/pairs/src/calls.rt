@@ -1,47 +1,47 @@
 // The calls of a table of pairs.
 ghost use Rattle.std.specs.Prelude.{◌≡◌, [], Decides};
 ghost use Rattle.device.specs.Cuts.{Among};
-ghost use Rattle.pairs.specs.Pairs.{added, place, within, reached};
+ghost use Rattle.pairs.specs.Pairs.{end_after, added, place, within, reached};
 ghost use Rattle.pairs.specs.View.{pairs_of};
 ghost use Rattle.pairs.specs.Law.{Adding, sectors, Numbered};
 
 use crate::fault::PairFault;
-use crate::pair::{MOST_PAIRS, Pair};
-use crate::search::{one_holds, place_of, reached_by};
+use crate::pair::Pair;
+use crate::search::{one_holds, place_of};
 use crate::table::Pairs;
+use arrayvec::ArrayVec;
 
 impl Pairs {
     // No pair yet.
     pub fn none() -> Pairs
         ensures { pairs_of result ≡ [] }
     {
-        let pair = Pair {
-            offset: 0,
-            length: 0,
-        };
         Pairs {
-            items: [pair; MOST_PAIRS],
-            len: 0,
-            end: 0,
+            items: ArrayVec::new(),
         }
+    }
+
+    // Where the last pair ends, or 0 where there is none.
+    fn end(&self) -> u64
+        ensures { result ≡ end_after 0 (pairs_of self.now) }
+    {
+        self.items.last().map_or(0, |pair| pair.end())
     }
 
     // The conditions of a pair in their order.
     fn accept(&mut self, pair: Pair, count: u32) -> Result<(), PairFault>
         ensures { (result, pairs_of self.new) ≡ added (pairs_of self.old) pair count }
     {
-        if self.len >= MOST_PAIRS || pair.length == 0 {
+        if self.items.is_full() || pair.length == 0 {
             return Err(PairFault::OffLimits);
         }
-        if pair.offset < self.end {
+        if u64::from(pair.offset) < self.end() {
             return Err(PairFault::OutOfOrder);
         }
-        if u64::from(pair.offset) + u64::from(pair.length) > u64::from(count) {
+        if pair.end() > u64::from(count) {
             return Err(PairFault::PastTheEnd);
         }
-        self.items[self.len] = pair;
-        self.len += 1;
-        self.end = pair.offset + pair.length;
+        self.items.push(pair);
         Ok(())
     }
 
@@ -58,7 +58,7 @@ impl Pairs {
         ensures value { result ≡ place (pairs_of self.now) sector }
         ensures law { Numbered (pairs_of self.now) sector result }
     {
-        place_of(&self.items[0..self.len], sector)
+        place_of(&self.items, sector)
     }
 
     // Whether a sector below lies inside a pair.
@@ -66,13 +66,14 @@ impl Pairs {
         ensures value { result ≡ within (pairs_of self.now) sector }
         ensures law { Decides result (Among sector (sectors (pairs_of self.now))) }
     {
-        one_holds(&self.items[0..self.len], sector)
+        one_holds(&self.items, sector)
     }
 
     // How many of the pairs' sectors a device of so many sectors has.
+    #[tactic(auto, unfolding(crate::specs::Pairs::reached))]
     pub fn reached(&self, count: u32) -> u32
         ensures { result ≡ reached (pairs_of self.now) count }
     {
-        reached_by(&self.items[0..self.len], count)
+        self.items.iter().map(|pair| pair.reached(count)).sum()
     }
 }

@@ -6,9 +6,9 @@ ghost use Rattle.pairs.specs.Faults.{number_of};
 // it ends within the device below.
 #[derive(Clone, Copy, Debug)]
 pub enum PairFault {
-    OffLimits,
-    OutOfOrder,
-    PastTheEnd,
+    OffLimits = 34,
+    OutOfOrder = 33,
+    PastTheEnd = 30,
 }
 
 impl PairFault {
@@ -16,10 +16,6 @@ impl PairFault {
     pub fn number(self) -> u8
         ensures { result ≡ number_of self }
     {
-        match self {
-            PairFault::OffLimits => 34,
-            PairFault::OutOfOrder => 33,
-            PairFault::PastTheEnd => 30,
-        }
+        self as u8
     }
 }

@@ -1,3 +1,1 @@
-pub mod Scanning
-pub mod Joining
 pub mod Losing

@@ -1,4 +1,5 @@
 pub mod Waiting
+pub mod Slots
 pub mod Views
 pub mod Laws
 pub mod Queues

@@ -1,11 +1,13 @@
 -- The model of a queue: a new write, the oldest landed, all landed.
 -- Assumes nothing.
-use Rattle.std.specs.Prelude.{◌≡◌, ℕ, ◌^◌, ◌<◌, ◌≤◌, Bool, true, false, cond, List, [], ◌∷◌, ◌++◌, length, Ok, Decides, fold, ◌==◌, ◌≢◌, nat_lt, refl}
+use Rattle.std.specs.Prelude.{◌≡◌, ℕ, ◌^◌, ◌<◌, ◌≤◌, Bool, true, false, cond, List, [], ◌∷◌, ◌++◌, length, reverse, Some, None, Ok, Option, Decides, fold, find, unwrap_or, ◌==◌, ◌≢◌, nat_lt, refl}
 use Rattle.std.proofs.Common.{⊎_elim, sym, ◌∙◌, subst, arith}
 use Rattle.std.proofs.Math.Path.{ap, fun_ext}
 use Rattle.std.specs.List.{AllByRecursion}
+use Rattle.std.specs.Option.{option_map, option_or}
+use Rattle.std.proofs.lemmas.List.Folds.{find-append}
 use Rattle.std.proofs.ByRecursion.{All-push}
-use Rattle.std.proofs.lemmas.List.{append-nil, append_assoc}
+use Rattle.std.proofs.lemmas.List.{append-nil, append_assoc, reverse-append}
 use Rattle.std.proofs.lemmas.List.Sums.{fold_push}
 use Rattle.std.proofs.lemmas.Bool.{cases_eq, eq-eqb, ne_eqb, lt-ltb, cond-true, cond_both}
 use Rattle.std.proofs.lemmas.Bool.Decides.{Decides-and, Decides-ltb, Decides-eqb}
@@ -24,7 +26,7 @@ use Rattle.device.proofs.Cutting.{nothing_dropped}
 use Rattle.media.specs.Landed.{count_of, sector_of, landed, stored}
 use Rattle.media.specs.Sectors.{count_stored, landed_there, landed_past, landed_here, landed_elsewhere}
 use Rattle.media.specs.Images.{landed_whole}
-use Rattle.queue.specs.Waiting.{for_sector, lists, queue_model, overlaid, landing, all_landed, oldest_landed, accepted, well_formed}
+use Rattle.queue.specs.Waiting.{for_sector, lists, queue_model, newest, overlaid, landing, all_landed, oldest_landed, accepted, well_formed}
 use Rattle.queue.specs.declared.pending.Pending.{Pending}
 
 -- a write to one of n sectors, with a sector's bytes
@@ -229,6 +231,20 @@ newest_overlaid s (w ∷ ws) c area e =
     (λ b. (fold followed c (cond b (holding w.bytes ∷ for_sector s ws) (for_sector s ws))).newest ≡ holding (overlaid s (cond b w.bytes area) ws))
     (newest_overlaid s ws (followed c (holding w.bytes)) w.bytes refl)
     (newest_overlaid s ws c area e)
+
+-- the bytes that are left are those of the newest write
+pub overlaid_newest : (s : ℕ) (bytes : List ℕ) (ws : List Pending) → overlaid s bytes ws ≡ unwrap_or (newest s ws) bytes
+overlaid_newest s bytes [] = refl
+overlaid_newest s bytes (w ∷ ws) =
+    overlaid_newest s (cond (s == w.sector) w.bytes bytes) ws
+    ∙ (one_more (find (λ v. s == v.sector) (reverse ws)) (s == w.sector)
+    ∙ ap (λ (o : Option Pending). unwrap_or (option_map (λ v. v.bytes) o) bytes)
+    (sym (ap (find (λ (v : Pending). s == v.sector)) (reverse-append (w ∷ []) ws) ∙ find-append (λ v. s == v.sector) (reverse ws) (w ∷ []))))
+  where
+    one_more : (o : Option Pending) (b : Bool) → unwrap_or (option_map (λ v. v.bytes) o) (cond b w.bytes bytes) ≡ unwrap_or (option_map (λ v. v.bytes) (option_or o (cond b (Some w) None))) bytes
+    one_more (Some v) b = refl
+    one_more None true = refl
+    one_more None false = refl
 
 pub queue_reading :
     (bs : List ℕ) (ws : List Pending) (s tally : ℕ) (from : Origins) (area found after : List ℕ) → s < count_of bs → found ≡ sector_of bs s → after ≡ overlaid s found ws →

@@ -1,7 +1,8 @@
 -- A queue as its contracts see it.
-use Rattle.std.specs.Prelude.{ℕ, List, length, take, vec_items}
+use Rattle.std.specs.Prelude.{ℕ, List}
 use Rattle.device.specs.Model.{Model}
 use Rattle.media.specs.Stores.{bytes_of}
+use Rattle.queue.specs.Slots.{slots_in, writes_in}
 use Rattle.queue.specs.Waiting.{queue_model}
 use Rattle.queue.specs.declared.pending.Pending.{Pending}
 use Rattle.queue.specs.declared.queue.Queue.{Queue}
@@ -12,11 +13,11 @@ landed_bytes q = bytes_of q.store
 
 -- the writes that wait, the oldest first
 abbrev pub waiting_list : Queue → List Pending
-waiting_list q = take q.waiting (vec_items q.slots)
+waiting_list q = writes_in q.waiting
 
 -- how many writes can wait
 abbrev pub slots_of : Queue → ℕ
-slots_of q = length (vec_items q.slots)
+slots_of q = slots_in q.waiting
 
 abbrev pub model_of : Queue → Model
 model_of q = queue_model (landed_bytes q) (waiting_list q) q.tally

@@ -1,5 +1,7 @@
 -- Writes that wait, the oldest first: what they make of a sector's list, and how they land.
-use Rattle.std.specs.Prelude.{ℕ, Bool, true, false, cond, ◌&&◌, ◌||◌, List, [], ◌∷◌, ◌++◌, length, Ok, Err, fold, ◌==◌, nat_lt}
+use Rattle.std.specs.Prelude.{ℕ, Bool, true, cond, ◌&&◌, List, [], ◌∷◌, ◌++◌, length, reverse, Some, None, Ok, Err, Option, fold, find, ◌==◌, nat_lt}
+use Rattle.std.specs.List.{list_any}
+use Rattle.std.specs.Option.{option_map}
 use Rattle.descriptor.specs.Limits.{sector_bytes}
 use Rattle.device.specs.Calls.{Answer}
 use Rattle.device.specs.Content.{Content, Contents, holding, only, followed}
@@ -32,8 +34,11 @@ queue_origins = origins_at Queue
 
 -- whether a write to a sector waits
 abbrev pub waits_for : ℕ → List Pending → Bool
-waits_for s [] = false
-waits_for s (w ∷ ws) = s == w.sector || waits_for s ws
+waits_for s ws = list_any (λ w. s == w.sector) ws
+
+-- the bytes of the newest waiting write to a sector
+abbrev pub newest : ℕ → List Pending → Option (List ℕ)
+newest s ws = option_map (λ w. w.bytes) (find (λ w. s == w.sector) (reverse ws))
 
 -- a sector's bytes, with the waiting writes to it over them: the newest is left
 abbrev pub overlaid : ℕ → List ℕ → List Pending → List ℕ
@@ -60,6 +65,15 @@ accepted slots new bs ws = cond (nat_lt (length ws) slots) (bs, ws ++ new ∷ []
 abbrev pub after_write : Answer → ℕ → Pending → List ℕ → List Pending → List ℕ × List Pending
 after_write (Ok done) slots new bs ws = accepted slots new bs ws
 after_write (Err fault) slots new bs ws = (bs, ws)
+
+-- the first of some writes, and the others
+abbrev pub first_out : List Pending → Option Pending × List Pending
+first_out [] = (None, [])
+first_out (w ∷ ws) = (Some w, ws)
+
+-- a new write put behind those that wait: the oldest of all, where they filled all slots, and what waits then
+abbrev pub pushed : ℕ → Pending → List Pending → Option Pending × List Pending
+pushed slots new ws = cond (nat_lt (length ws) slots) (None, ws ++ new ∷ []) (first_out (ws ++ new ∷ []))
 
 -- a write to one of n sectors, with a sector's bytes
 abbrev pub well_formed : ℕ → Pending → Bool

@@ -1,7 +1,7 @@
 // The queue device: sectors in bytes of the caller, with writes that wait in slots of the caller.
 #![tactic(auto)]
 
-mod accepting;
 mod landing;
 pub mod pending;
 pub mod queue;
+mod waiting;

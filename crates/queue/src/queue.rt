@@ -1,23 +1,22 @@
 // A queue: sectors in bytes of the caller, and slots of the caller in which writes wait.
-ghost use Rattle.std.specs.Prelude.{◌≡◌, ◌^◌, ◌<◌, ◌≤◌, true, take, vec_len};
+ghost use Rattle.std.specs.Prelude.{◌≡◌, ◌^◌, ◌<◌, true};
 ghost use Rattle.octets.specs.Every.{every};
 ghost use Rattle.media.specs.Landed.{count_of};
 ghost use Rattle.media.specs.Stores.{bytes_of};
+ghost use Rattle.queue.specs.Slots.{writes_in};
 ghost use Rattle.queue.specs.Waiting.{well_formed};
 
 pub mod calls;
 
-use crate::pending::Pending;
+use crate::waiting::Waiting;
 use media::store::Store;
 
-// The first `waiting` slots hold the writes that wait, the oldest first; what the others hold does not matter.
+// The bytes that have landed, the writes that wait, and how many writes and settles were accepted, modulo 2^64.
 #[derive(Drop)]
 pub struct Queue {
     store: Store,
-    slots: Vec<Pending>,
-    waiting: usize,
+    waiting: Waiting,
     tally: u64,
-    ghost within: { waiting ≤ vec_len slots },
-    ghost each: { every (well_formed (count_of (bytes_of store))) (take waiting slots.items) ≡ true },
+    ghost each: { every (well_formed (count_of (bytes_of store))) (writes_in waiting) ≡ true },
     ghost counts: { tally < 2 ^ 64 },
 }

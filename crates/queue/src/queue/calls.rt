@@ -8,10 +8,10 @@ ghost use Rattle.queue.specs.Waiting.{queue_model, queue_origins, waits_for, aft
 ghost use Rattle.media.specs.Landed.{count_of};
 ghost use Rattle.queue.specs.Queues.{each_decides, queue_sound};
 
-use crate::accepting::accept;
-use crate::landing::{has_write, land_all, lay_over};
+use crate::landing::{land, land_all};
 use crate::pending::{Parts, Pending};
 use crate::queue::Queue;
+use crate::waiting::Waiting;
 use descriptor::kinds::Sector;
 use device::fault::{DeviceFault, Layer};
 use device::interface::Device;
@@ -19,25 +19,16 @@ use media::refusal::off_device;
 use media::store::Store;
 
 impl Queue {
-    // The writes that wait, the oldest first.
-    fn pending(&self) -> &[Pending]
-        ensures { result.now ≡ waiting_list self.now }
-    {
-        &self.slots[0..self.waiting]
-    }
-
     // A queue over bytes and slots of the caller, of any number: nothing waits, and the tally begins at 0.
     pub fn over(bytes: Vec<u8>, slots: Vec<Pending>) -> Queue
         ensures bytes { landed_bytes result ≡ bytes.items }
         ensures waiting { waiting_list result ≡ [] }
-        ensures slots { result.slots.items ≡ slots.items }
+        ensures slots { result.waiting.slots.items ≡ slots.items }
         ensures model { model_of result ≡ queue_model bytes.items [] 0 }
     {
-        let store = Store::over(bytes);
         Queue {
-            store,
-            slots,
-            waiting: 0,
+            store: Store::over(bytes),
+            waiting: Waiting::none(slots),
             tally: 0,
         }
     }
@@ -46,19 +37,18 @@ impl Queue {
     // anew over the bytes is one that a power cut may leave.
     pub fn into_parts(self) -> Parts
         ensures bytes { result.bytes.items ≡ landed_bytes self }
-        ensures slots { result.slots.items ≡ self.slots.items }
+        ensures slots { result.slots.items ≡ self.waiting.slots.items }
         ensures cut { Cut (model_of self) (queue_model result.bytes.items [] 0) }
         ensures laws { QueueLaws }
     {
         let Queue {
             store,
-            slots,
-            waiting: _,
+            waiting,
             tally: _,
         } = self;
         Parts {
             bytes: store.into_bytes(),
-            slots,
+            slots: waiting.slots,
         }
     }
 
@@ -66,14 +56,17 @@ impl Queue {
     pub fn waiting(&self) -> usize
         ensures { result ≡ length (waiting_list self.now) }
     {
-        self.pending().len()
+        self.waiting.writes().len()
     }
 
     // Whether a write to the sector waits.
     pub fn waits(&self, sector: u32) -> bool
         ensures { result ≡ waits_for sector (waiting_list self.now) }
     {
-        has_write(self.pending(), sector)
+        self.waiting
+            .writes()
+            .iter()
+            .any(|write| sector == write.sector)
     }
 }
 
@@ -97,10 +90,11 @@ impl Device for Queue {
     }
 
     fn read(&self, sector: u32, area: &mut Sector) -> Result<(), DeviceFault> {
-        if !self.store.get(sector, area) {
-            return Err(off_device(Layer::Queue, sector));
-        }
-        lay_over(self.pending(), sector, area);
+        let landed = self
+            .store
+            .get(sector)
+            .ok_or(off_device(Layer::Queue, sector))?;
+        *area = *self.waiting.newest(sector).unwrap_or(landed);
         Ok(())
     }
 
@@ -118,7 +112,9 @@ impl Device for Queue {
             sector,
             bytes: *bytes,
         };
-        self.waiting = accept(&mut self.store, &mut self.slots, self.waiting, new);
+        if let Some(oldest) = self.waiting.push(new) {
+            land(&mut self.store, &oldest);
+        }
         self.tally = self.tally.wrapping_add(1);
         Ok(())
     }
@@ -130,8 +126,8 @@ impl Device for Queue {
         ensures empties { waiting_list self.new ≡ [] }
         ensures slots { slots_of self.new ≡ slots_of self.old }
     {
-        land_all(&mut self.store, &self.slots[0..self.waiting]);
-        self.waiting = 0;
+        land_all(&mut self.store, self.waiting.writes());
+        self.waiting.clear();
         self.tally = self.tally.wrapping_add(1);
     }
 }

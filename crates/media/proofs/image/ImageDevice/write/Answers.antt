@@ -1,19 +1,13 @@
-use Rattle.std.proofs.Common.{refl, arith}
-use Rattle.std.proofs.lemmas.Bool.{cond_below}
-use Rattle.media.specs.Landed.{count_of, stored}
+use Rattle.std.proofs.Common.{arith}
 use Rattle.media.specs.Stores.{bytes_of}
-use Rattle.media.specs.Images.{passed, image_written}
+use Rattle.media.specs.Images.{was_put, image_written}
 use Rattle.media.proofs.image.ImageDevice.write.Goals as goal
 
-pub returns : goal.returns
-returns c =
+pub returns-clause-after : goal.returns-clause-after
+returns-clause-after c =
     let bs = bytes_of c.args.self.now.store in
     let s = c.args.sector in
     let bytes = c.args.bytes.now in
-    let p = passed s (count_of bs) (stored s bytes bs) bs c.put.result (bytes_of c.put.new.self) c.put.ensures c.if-not-put.false in
-    record {
-      answer = cond_below s (count_of bs) _ _ p.0;
-      after = image_written bs s c.args.self.now.tally bytes (bytes_of c.put.new.self) p.0 (omega arith) p.1;
-      origin = refl;
-      lands = p.1;
-    }
+    let after = bytes_of c.put.new.self in
+    let p = was_put s bytes bs after c.put.result c.in_ok-ok_or.field-0 c.put.ensures c.in_ok-ok_or.ensures.ok_part in
+    image_written bs s c.args.self.now.tally bytes after p.0 (omega arith) p.1

@@ -1,13 +1,18 @@
-use Rattle.std.proofs.Common.{◌≡◌, ℕ, ◌+◌, ◌-◌, ◌*◌, List, take, drop, ap, ◌∙◌, arith}
+use Rattle.std.proofs.Common.{◌≡◌, ◌+◌, ◌-◌, ◌*◌, length, take, drop, ap, ◌∙◌, arith}
+use Rattle.std.specs.Option.{option_copied}
+use Rattle.std.proofs.lemmas.List.{length-take, length-drop}
 use Rattle.media.specs.Landed.{sector_of}
 use Rattle.media.specs.Stores.{bytes_of}
-use Rattle.media.specs.Sectors.{getting_there}
+use Rattle.media.specs.Sectors.{sector_found}
 use Rattle.media.proofs.store.Store.get.Goals as goal
 
 pub returns : goal.returns
 returns c =
-    let s = c.args.sector in
-    let n : 2048 * s + 2048 - 2048 * s ≡ 2048 = omega arith in
-    getting_there (bytes_of c.args.self.now) s c.args.area.now c.copy_from_slice.new.self (omega arith)
-    (c.copy_from_slice.ensures.after
-    ∙ (ap (λ (k : ℕ). take k (drop (2048 * s) c.deref.result.now)) n ∙ ap (λ (l : List ℕ). sector_of l s) c.deref.ensures.value))
+    let from = c.in_ok-from.from in
+    let bs = bytes_of c.args.self.now in
+    let chunk = take (from + 2048 - from) (drop from c.deref.result.now) in
+    let long : length chunk ≡ 2048 = simp (length-take, length-drop) (omega arith) in
+    let width : from + 2048 - from ≡ 2048 = omega arith in
+    let start : from ≡ 2048 * c.args.sector = omega arith in
+    let same : chunk ≡ sector_of bs c.args.sector = cc in
+    ap option_copied c.ok.ensures.value ∙ sector_found bs chunk c.args.sector 2048 _ c.try_into.result (c.try_into.ensures.0 long) c.try_into.ensures.1 c.in_ok-from.ensures.0 same

@@ -2,8 +2,5 @@ use Rattle.pairs.specs.View.{pairs_of}
 use Rattle.pairs.proofs.Adding.{adding}
 use Rattle.pairs.proofs.table.Pairs.add.Goals as goal
 
-pub returns : goal.returns
-returns c = record {
-  value = c.accept.ensures;
-  law = adding (pairs_of c.args.self.now) c.args.pair c.args.count c.args.self.now.ordered c.accept.result (pairs_of c.accept.new.self) c.accept.ensures;
-}
+pub returns-clause-law : goal.returns-clause-law
+returns-clause-law c = adding (pairs_of c.args.self.now) c.args.pair c.args.count c.args.self.now.ordered c.accept.result (pairs_of c.accept.new.self) c.accept.ensures
