@@ -1,6 +1,6 @@
 -- The gather layer keeps the meaning of a device, and a cut below is a cut of the layer.
 -- Assumes nothing.
-use Rattle.std.specs.Prelude.{◌≡◌, ℕ, ◌≤◌, Bool, true, false, cond, ◌&&◌, ltb, List, [], Some, None, Ok, Err, Option, ◌≢◌, nat_lt, refl}
+use Rattle.std.specs.Prelude.{◌≡◌, ℕ, ◌≤◌, Bool, true, false, cond, ltb, List, [], Some, None, Ok, Err, Option, ◌≢◌, nat_lt, refl}
 use Rattle.std.proofs.Common.{inl, sym, ap, ◌∙◌, subst, arith}
 use Rattle.std.specs.List.{AllByRecursion}
 use Rattle.std.proofs.lemmas.Bool.{le-ltb, ltb-false}
@@ -35,21 +35,16 @@ module _ (ps : List Pair) (ordered : in_order 0 ps ≡ true) where
   -- a sector that some pair has
   module _ (m : Model) (from : Origins) (s t : ℕ) (at : place ps s ≡ Some t) where
     pub takes_some : takes_writes (gathered ps m) s ≡ takes_writes m t
-    takes_some =
-        ap (λ (b : Bool). b && via (place ps s) false m.writable) (reached_as ps m.count s t ordered at)
-        ∙ ap (λ (p : Option ℕ). nat_lt t m.count && via p false m.writable) at
+    takes_some = rw (reached_as ps m.count s t ordered at, at)
 
     pub reading_some : (area : List ℕ) → ◌≡◌ {A = Answer × List ℕ} (reading (gathered ps m) (gather_origins ps from) s area) (handed_up (reading m from t area).0, (reading m from t area).1)
     reading_some area =
-        ap (λ (b : Bool). cond b (filled (gather_origins ps from) s area (via (place ps s) nowhere m.contents).newest) (refused (gather_origins ps from) OffDevice s, area)) (reached_as ps m.count s t ordered at)
-        ∙ (ap (λ (p : Option ℕ). cond (nat_lt t m.count) (filled (λ why _. via p (own_origin s) (λ u. deeper (from why u))) s area (via p nowhere m.contents).newest) (refused (λ why _. via p (own_origin s) (λ u. deeper (from why u))) OffDevice s, area)) at
+        rw (reached_as ps m.count s t ordered at)
+        (ap (λ (p : Option ℕ). cond (nat_lt t m.count) (filled (λ why _. via p (own_origin s) (λ u. deeper (from why u))) s area (via p nowhere m.contents).newest) (refused (λ why _. via p (own_origin s) (λ u. deeper (from why u))) OffDevice s, area)) at
         ∙ read_through from s t area (nat_lt t m.count) (m.contents t).newest)
 
     pub permitted_some : permitted (gathered ps m) (gather_origins ps from) s ≡ handed_up (permitted m from t)
-    permitted_some =
-        ap (λ (b : Bool). cond b (cond (via (place ps s) false m.writable) (Ok tt) (refused (gather_origins ps from) TakesNoWrites s)) (refused (gather_origins ps from) OffDevice s)) (reached_as ps m.count s t ordered at)
-        ∙ (ap (λ (p : Option ℕ). cond (nat_lt t m.count) (cond (via p false m.writable) (Ok tt) (refused (λ why _. via p (own_origin s) (λ u. deeper (from why u))) TakesNoWrites s)) (refused (λ why _. via p (own_origin s) (λ u. deeper (from why u))) OffDevice s)) at
-        ∙ write_through from s t (nat_lt t m.count) (m.writable t))
+    permitted_some = rw (reached_as ps m.count s t ordered at, at) (write_through from s t (nat_lt t m.count) (m.writable t))
 
   -- a sector that no pair has
   module _ (m : Model) (from : Origins) (s : ℕ) (none : place ps s ≡ None) where
@@ -57,17 +52,13 @@ module _ (ps : List Pair) (ordered : in_order 0 ps ≡ true) where
     past = le-ltb s (reached ps m.count) (reached_out ps m.count s none)
 
     pub reading_none : (area : List ℕ) → ◌≡◌ {A = Answer × List ℕ} (reading (gathered ps m) (gather_origins ps from) s area) (Err (off_layer s), area)
-    reading_none area =
-        ap (λ (b : Bool). cond b (filled (gather_origins ps from) s area (via (place ps s) nowhere m.contents).newest) (refused (gather_origins ps from) OffDevice s, area)) past
-        ∙ ap (λ (p : Option ℕ). (refused (λ why _. via p (own_origin s) (λ u. deeper (from why u))) OffDevice s, area)) none
+    reading_none area = rw (past, none)
 
     pub permitted_none : permitted (gathered ps m) (gather_origins ps from) s ≡ Err (off_layer s)
-    permitted_none =
-        ap (λ (b : Bool). cond b (cond (via (place ps s) false m.writable) (Ok tt) (refused (gather_origins ps from) TakesNoWrites s)) (refused (gather_origins ps from) OffDevice s)) past
-        ∙ ap (λ (p : Option ℕ). refused (λ why _. via p (own_origin s) (λ u. deeper (from why u))) OffDevice s) none
+    permitted_none = rw (past, none)
 
     pub takes_none : takes_writes (gathered ps m) s ≡ false
-    takes_none = ap (λ (b : Bool). b && via (place ps s) false m.writable) past
+    takes_none = rw past
 
   -- what a write leaves
   gathered_written : (m : Model) (s t : ℕ) (bytes : List ℕ) (m' : Model) → place ps s ≡ Some t → Written m t bytes m' → Written (gathered ps m) s bytes (gathered ps m')

@@ -14,7 +14,7 @@ use pairs::table::Pairs;
 // A device whose sectors are those of its pairs, in the order of the pairs.
 pub type Gather<D> = Layer<Gathering, D>;
 
-// What makes a layer one that gathers.
+// The kind of a layer that has the sectors of its pairs.
 pub struct Gathering;
 
 impl Kind for Gathering {

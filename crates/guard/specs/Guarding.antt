@@ -1,7 +1,7 @@
 -- The guard layer keeps the meaning of a device, and a cut below is a cut of the layer.
 -- Assumes nothing.
 use Rattle.std.specs.Prelude.{◌≡◌, ℕ, Bool, true, false, cond, not, ◌&&◌, ltb, List, Ok, Err, Result, IfOk, nat_lt, refl}
-use Rattle.std.proofs.Common.{⊎_elim, sym, ap, ◌∙◌, subst}
+use Rattle.std.proofs.Common.{⊎_elim, sym, ap, subst}
 use Rattle.std.proofs.lemmas.Bool.{and_parts, and_cases}
 use Rattle.device.specs.declared.fault.Reason.TheVariants.{OffDevice, TakesNoWrites}
 use Rattle.device.specs.Content.{Content, unreadable, holding}
@@ -14,7 +14,7 @@ use Rattle.pairs.specs.declared.fault.PairFault.{PairFault}
 use Rattle.pairs.specs.Law.{Adding}
 use Rattle.pairs.specs.Pairs.{in_order, within}
 use Rattle.layer.specs.Kept.{Passed, takes_there, permitted_there, Keeps}
-use Rattle.guard.specs.Guarded.{guarded, own_origin, guard_origins, inside_pair, guard_target, CutsRise}
+use Rattle.guard.specs.Guarded.{guarded, guard_origins, inside_pair, guard_target, CutsRise}
 
 module _ (ps : List Pair) (m : Model) (from : Origins) (s : ℕ) where
   -- a sector takes writes if it does below and lies inside no pair
@@ -36,12 +36,7 @@ module _ (ps : List Pair) (m : Model) (from : Origins) (s : ℕ) where
 
   -- a write inside a pair is refused
   pub permitted_inside : (nat_lt s m.count && within ps s) ≡ true → permitted (guarded ps m) (guard_origins ps from) s ≡ Err (inside_pair s)
-  permitted_inside both =
-      let b = (and_parts (nat_lt s m.count) (within ps s) both).0 in
-      let g = (and_parts (nat_lt s m.count) (within ps s) both).1 in
-      ap (λ (x : Bool). cond x (cond (m.writable s && not (within ps s)) (Ok tt) (refused (guard_origins ps from) TakesNoWrites s)) (refused (guard_origins ps from) OffDevice s)) b
-      ∙ (ap (λ (x : Bool). cond (m.writable s && not x) (Ok tt) (Err (record { reason = TakesNoWrites; origin = cond x (own_origin s) (deeper (from TakesNoWrites s)) }))) g
-      ∙ no_way (m.writable s))
+  permitted_inside both = let parts = and_parts (nat_lt s m.count) (within ps s) both in rw (parts.0, parts.1) (no_way (m.writable s))
     where
       no_way : (w : Bool) → ◌≡◌ {A = Answer} (cond (w && false) (Ok tt) (Err (inside_pair s))) (Err (inside_pair s))
       no_way true = refl
@@ -49,9 +44,7 @@ module _ (ps : List Pair) (m : Model) (from : Origins) (s : ℕ) where
 
   -- any other write is the write below
   outside : within ps s ≡ false → permitted (guarded ps m) (guard_origins ps from) s ≡ handed_up (permitted m from s)
-  outside g =
-      ap (λ (x : Bool). cond (nat_lt s m.count) (cond (m.writable s && not x) (Ok tt) (Err (record { reason = TakesNoWrites; origin = cond x (own_origin s) (deeper (from TakesNoWrites s)) }))) (refused (guard_origins ps from) OffDevice s)) g
-      ∙ go (nat_lt s m.count) (m.writable s)
+  outside g = rw g (go (nat_lt s m.count) (m.writable s))
     where
       go : (b w : Bool) → ◌≡◌ {A = Answer} (cond b (cond (w && true) (Ok tt) (refused (λ why t. deeper (from why t)) TakesNoWrites s)) (refused (λ why t. deeper (from why t)) OffDevice s)) (handed_up (cond b (cond w (Ok tt) (refused from TakesNoWrites s)) (refused from OffDevice s)))
       go true true = refl
@@ -59,9 +52,7 @@ module _ (ps : List Pair) (m : Model) (from : Origins) (s : ℕ) where
       go false w = refl
 
   past : ltb s m.count ≡ false → permitted (guarded ps m) (guard_origins ps from) s ≡ handed_up (permitted m from s)
-  past b =
-      ap (λ (x : Bool). cond x (cond (m.writable s && not (within ps s)) (Ok tt) (refused (guard_origins ps from) TakesNoWrites s)) (refused (guard_origins ps from) OffDevice s)) b
-      ∙ sym (ap (λ (x : Bool). handed_up (cond x (cond (m.writable s) (Ok tt) (refused from TakesNoWrites s)) (refused from OffDevice s))) b)
+  past b = rw b
 
   pub permitted_outside : (nat_lt s m.count && within ps s) ≡ false → permitted (guarded ps m) (guard_origins ps from) s ≡ handed_up (permitted m from s)
   permitted_outside neither = ⊎_elim past outside (and_cases (nat_lt s m.count) (within ps s) neither)

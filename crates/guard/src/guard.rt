@@ -11,7 +11,7 @@ use pairs::table::Pairs;
 // A device that is the one below, but takes no writes inside its pairs.
 pub type Guard<D> = Layer<Guarding, D>;
 
-// What makes a layer one that guards.
+// The kind of a layer that takes no writes inside its pairs.
 pub struct Guarding;
 
 impl Kind for Guarding {
