@@ -1,5 +1,5 @@
 -- The meaning of the gather layer, worked out from that of the device below.
-use Rattle.std.specs.Prelude.{◌≡◌, ℕ, false, List, Some, None, Option}
+use Rattle.std.specs.Prelude.{◌≡◌, ℕ, false, List, Some, None, Ok, Err, Option}
 use Rattle.device.specs.declared.fault.DeviceFault.{DeviceFault}
 use Rattle.device.specs.declared.fault.Origin.{Origin}
 use Rattle.device.specs.declared.fault.Reason.TheVariants.{OffDevice}
@@ -9,6 +9,7 @@ use Rattle.device.specs.Faults.{Origins, deeper}
 use Rattle.device.specs.Cuts.{Cut, CutInWrite}
 use Rattle.pairs.specs.declared.pair.Pair.{Pair}
 use Rattle.pairs.specs.Pairs.{place, reached}
+use Rattle.layer.specs.Kept.{Passed}
 
 -- something of the sector below, if there is one
 abbrev pub via : {A : Type 0} → Option ℕ → A → (ℕ → A) → A
@@ -33,6 +34,10 @@ gather_origins ps below why s = via (place ps s) (own_origin s) (λ t. deeper (b
 
 abbrev pub off_layer : ℕ → DeviceFault
 off_layer s = record { reason = OffDevice; origin = own_origin s }
+
+-- a call goes to the sector below, if there is one
+abbrev pub gather_source : List Pair → ℕ → Passed
+gather_source ps s = via (place ps s) (Err (off_layer s)) (λ t. Ok t)
 
 -- every cut below is a cut of the layer: between calls, and in the write below that a write of the layer makes
 pub record CutsRise (ps : List Pair) : Type 0 where

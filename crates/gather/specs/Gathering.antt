@@ -1,21 +1,24 @@
 -- The gather layer keeps the meaning of a device, and a cut below is a cut of the layer.
 -- Assumes nothing.
-use Rattle.std.specs.Prelude.{◌≡◌, ℕ, ◌≤◌, Bool, true, false, cond, ◌&&◌, ltb, List, [], Some, None, Ok, Err, Option, ◌≢◌, nat_lt, refl}
+use Rattle.std.specs.Prelude.{◌≡◌, ℕ, ◌≤◌, Bool, true, false, cond, ltb, List, [], Some, None, Ok, Err, Option, ◌≢◌, nat_lt, refl}
 use Rattle.std.proofs.Common.{inl, sym, ap, ◌∙◌, subst, arith}
 use Rattle.std.specs.List.{AllByRecursion}
 use Rattle.std.proofs.lemmas.Bool.{le-ltb, ltb-false}
 use Rattle.device.specs.declared.fault.Reason.TheVariants.{OffDevice, TakesNoWrites}
-use Rattle.device.specs.Content.{Content, unreadable, holding, listed, Whole}
+use mathlib.Core.Path.{fun_ext}
+use Rattle.device.specs.Content.{Content, unreadable, holding, listed, only, Whole}
 use Rattle.device.specs.Model.{Model, Sound, nowhere, takes_writes}
 use Rattle.device.specs.Faults.{Origins, deeper, handed_up}
-use Rattle.device.specs.Calls.{Answer, refused, filled, reading, permitted, Sublist, Dropped, Written, AfterWrite}
+use Rattle.device.specs.Calls.{Answer, refused, filled, reading, permitted, settled, Sublist, Dropped, Written, AfterWrite}
 use Rattle.device.specs.Cuts.{Left, LeftOfWrite, Cut, CutInWrite}
 use Rattle.device.proofs.Lists.{dropped_none}
+use Rattle.device.proofs.Models.{same_model}
 use Rattle.pairs.specs.declared.pair.Pair.{Pair}
 use Rattle.pairs.specs.Pairs.{in_order, place, reached}
 use Rattle.pairs.proofs.Ordering.{reached_most}
 use Rattle.pairs.proofs.Placing.{place_one, reached_as, reached_out}
-use Rattle.gather.specs.Gathered.{via, gathered, own_origin, gather_origins, off_layer, CutsRise}
+use Rattle.layer.specs.Kept.{Passed, read_there, permitted_there, takes_there, Keeps}
+use Rattle.gather.specs.Gathered.{via, gathered, own_origin, gather_origins, off_layer, gather_source, CutsRise}
 
 -- an answer below as the layer hands it up, at each content
 read_through : (from : Origins) (s t : ℕ) (area : List ℕ) (b : Bool) (c : Content) → ◌≡◌ {A = Answer × List ℕ} (cond b (filled (λ why _. deeper (from why t)) s area c) (refused (λ why _. deeper (from why t)) OffDevice s, area)) (handed_up (cond b (filled from t area c) (refused from OffDevice t, area)).0, (cond b (filled from t area c) (refused from OffDevice t, area)).1)
@@ -32,21 +35,16 @@ module _ (ps : List Pair) (ordered : in_order 0 ps ≡ true) where
   -- a sector that some pair has
   module _ (m : Model) (from : Origins) (s t : ℕ) (at : place ps s ≡ Some t) where
     pub takes_some : takes_writes (gathered ps m) s ≡ takes_writes m t
-    takes_some =
-        ap (λ (b : Bool). b && via (place ps s) false m.writable) (reached_as ps m.count s t ordered at)
-        ∙ ap (λ (p : Option ℕ). nat_lt t m.count && via p false m.writable) at
+    takes_some = rw (reached_as ps m.count s t ordered at, at)
 
     pub reading_some : (area : List ℕ) → ◌≡◌ {A = Answer × List ℕ} (reading (gathered ps m) (gather_origins ps from) s area) (handed_up (reading m from t area).0, (reading m from t area).1)
     reading_some area =
-        ap (λ (b : Bool). cond b (filled (gather_origins ps from) s area (via (place ps s) nowhere m.contents).newest) (refused (gather_origins ps from) OffDevice s, area)) (reached_as ps m.count s t ordered at)
-        ∙ (ap (λ (p : Option ℕ). cond (nat_lt t m.count) (filled (λ why _. via p (own_origin s) (λ u. deeper (from why u))) s area (via p nowhere m.contents).newest) (refused (λ why _. via p (own_origin s) (λ u. deeper (from why u))) OffDevice s, area)) at
+        rw (reached_as ps m.count s t ordered at)
+        (ap (λ (p : Option ℕ). cond (nat_lt t m.count) (filled (λ why _. via p (own_origin s) (λ u. deeper (from why u))) s area (via p nowhere m.contents).newest) (refused (λ why _. via p (own_origin s) (λ u. deeper (from why u))) OffDevice s, area)) at
         ∙ read_through from s t area (nat_lt t m.count) (m.contents t).newest)
 
     pub permitted_some : permitted (gathered ps m) (gather_origins ps from) s ≡ handed_up (permitted m from t)
-    permitted_some =
-        ap (λ (b : Bool). cond b (cond (via (place ps s) false m.writable) (Ok tt) (refused (gather_origins ps from) TakesNoWrites s)) (refused (gather_origins ps from) OffDevice s)) (reached_as ps m.count s t ordered at)
-        ∙ (ap (λ (p : Option ℕ). cond (nat_lt t m.count) (cond (via p false m.writable) (Ok tt) (refused (λ why _. via p (own_origin s) (λ u. deeper (from why u))) TakesNoWrites s)) (refused (λ why _. via p (own_origin s) (λ u. deeper (from why u))) OffDevice s)) at
-        ∙ write_through from s t (nat_lt t m.count) (m.writable t))
+    permitted_some = rw (reached_as ps m.count s t ordered at, at) (write_through from s t (nat_lt t m.count) (m.writable t))
 
   -- a sector that no pair has
   module _ (m : Model) (from : Origins) (s : ℕ) (none : place ps s ≡ None) where
@@ -54,14 +52,13 @@ module _ (ps : List Pair) (ordered : in_order 0 ps ≡ true) where
     past = le-ltb s (reached ps m.count) (reached_out ps m.count s none)
 
     pub reading_none : (area : List ℕ) → ◌≡◌ {A = Answer × List ℕ} (reading (gathered ps m) (gather_origins ps from) s area) (Err (off_layer s), area)
-    reading_none area =
-        ap (λ (b : Bool). cond b (filled (gather_origins ps from) s area (via (place ps s) nowhere m.contents).newest) (refused (gather_origins ps from) OffDevice s, area)) past
-        ∙ ap (λ (p : Option ℕ). (refused (λ why _. via p (own_origin s) (λ u. deeper (from why u))) OffDevice s, area)) none
+    reading_none area = rw (past, none)
 
     pub permitted_none : permitted (gathered ps m) (gather_origins ps from) s ≡ Err (off_layer s)
-    permitted_none =
-        ap (λ (b : Bool). cond b (cond (via (place ps s) false m.writable) (Ok tt) (refused (gather_origins ps from) TakesNoWrites s)) (refused (gather_origins ps from) OffDevice s)) past
-        ∙ ap (λ (p : Option ℕ). refused (λ why _. via p (own_origin s) (λ u. deeper (from why u))) OffDevice s) none
+    permitted_none = rw (past, none)
+
+    pub takes_none : takes_writes (gathered ps m) s ≡ false
+    takes_none = rw past
 
   -- what a write leaves
   gathered_written : (m : Model) (s t : ℕ) (bytes : List ℕ) (m' : Model) → place ps s ≡ Some t → Written m t bytes m' → Written (gathered ps m) s bytes (gathered ps m')
@@ -136,3 +133,36 @@ module _ (ps : List Pair) (ordered : in_order 0 ps ≡ true) where
       nothing : (s : ℕ) → reached ps m.count ≤ s → (p : Option ℕ) → place ps s ≡ p → via p nowhere m.contents ≡ nowhere
       nothing s le None e = refl
       nothing s le (Some t) e = sound.past t (ltb-false t m.count (sym (reached_as ps m.count s t ordered e) ∙ le-ltb s (reached ps m.count) le))
+
+  -- the layer keeps the meaning of a device
+  pub gathered_keeps : Keeps (gathered ps) (gather_origins ps) (reached ps) (gather_source ps) (λ n s. gather_source ps s)
+  gathered_keeps = record {
+    counted = λ m n e. ap (reached ps) e;
+    tally = λ m. refl;
+    takes = λ m s. takes m s (place ps s) refl;
+    read = λ m from s area. read m from s area (place ps s) refl;
+    permits = λ m from s. permits m from s (place ps s) refl;
+    written = λ m s t bytes m' r to. gathered_after m s t bytes m' r (found s t (place ps s) refl to);
+    settles = λ m. same_model (gathered ps (settled m)) (settled (gathered ps m)) refl (fun_ext (λ s. settles m (place ps s))) refl refl;
+    sound = gathered_sound;
+  }
+    where
+      takes : (m : Model) (s : ℕ) (p : Option ℕ) → place ps s ≡ p → takes_writes (gathered ps m) s ≡ takes_there (via p (Err (off_layer s)) (λ t. Ok t)) m
+      takes m s None e = takes_none m (λ _ u. own_origin u) s e
+      takes m s (Some t) e = takes_some m (λ _ u. own_origin u) s t e
+
+      read : (m : Model) (from : Origins) (s : ℕ) (area : List ℕ) (p : Option ℕ) → place ps s ≡ p → ◌≡◌ {A = Answer × List ℕ} (reading (gathered ps m) (gather_origins ps from) s area) (read_there (via p (Err (off_layer s)) (λ t. Ok t)) m from area)
+      read m from s area None e = reading_none m from s e area
+      read m from s area (Some t) e = reading_some m from s t e area
+
+      permits : (m : Model) (from : Origins) (s : ℕ) (p : Option ℕ) → place ps s ≡ p → permitted (gathered ps m) (gather_origins ps from) s ≡ permitted_there (via p (Err (off_layer s)) (λ t. Ok t)) m from
+      permits m from s None e = permitted_none m from s e
+      permits m from s (Some t) e = permitted_some m from s t e
+
+      found : (s t : ℕ) (p : Option ℕ) → place ps s ≡ p → ◌≡◌ {A = Passed} (via p (Err (off_layer s)) (λ t. Ok t)) (Ok t) → place ps s ≡ Some t
+      found s t None e to = cc
+      found s t (Some u) e to = cc
+
+      settles : (m : Model) (p : Option ℕ) → via p nowhere (λ t. only (m.contents t).newest) ≡ only (via p nowhere m.contents).newest
+      settles m None = refl
+      settles m (Some t) = refl

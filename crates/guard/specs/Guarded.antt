@@ -1,5 +1,5 @@
 -- The meaning of the guard layer, worked out from that of the device below.
-use Rattle.std.specs.Prelude.{◌≡◌, ℕ, true, cond, not, ◌&&◌, List}
+use Rattle.std.specs.Prelude.{◌≡◌, ℕ, true, cond, not, ◌&&◌, List, Ok, Err, nat_lt}
 use Rattle.device.specs.declared.fault.DeviceFault.{DeviceFault}
 use Rattle.device.specs.declared.fault.Origin.{Origin}
 use Rattle.device.specs.declared.fault.Reason.TheVariants.{OffDevice, Unreadable, TakesNoWrites}
@@ -9,6 +9,7 @@ use Rattle.device.specs.Faults.{Origins, deeper}
 use Rattle.device.specs.Cuts.{Cut, CutInWrite}
 use Rattle.pairs.specs.declared.pair.Pair.{Pair}
 use Rattle.pairs.specs.Pairs.{within}
+use Rattle.layer.specs.Kept.{Passed}
 
 -- the device below, but no sector inside a pair takes writes
 abbrev pub guarded : List Pair → Model → Model
@@ -30,6 +31,10 @@ guard_origins ps below TakesNoWrites s = cond (within ps s) (own_origin s) (deep
 
 abbrev pub inside_pair : ℕ → DeviceFault
 inside_pair s = record { reason = TakesNoWrites; origin = own_origin s }
+
+-- a write goes to its own sector, but not inside a pair, where there is such a sector
+abbrev pub guard_target : List Pair → ℕ → ℕ → Passed
+guard_target ps n s = cond (nat_lt s n && within ps s) (Err (inside_pair s)) (Ok s)
 
 -- every cut below is a cut of the layer: between calls, and in the write below that a write of the layer makes
 pub record CutsRise (ps : List Pair) : Type 0 where

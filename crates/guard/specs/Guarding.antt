@@ -1,7 +1,7 @@
 -- The guard layer keeps the meaning of a device, and a cut below is a cut of the layer.
 -- Assumes nothing.
-use Rattle.std.specs.Prelude.{◌≡◌, ℕ, Bool, true, false, cond, not, ◌&&◌, ltb, List, Ok, Err, nat_lt, refl}
-use Rattle.std.proofs.Common.{⊎_elim, sym, ap, ◌∙◌}
+use Rattle.std.specs.Prelude.{◌≡◌, ℕ, Bool, true, false, cond, not, ◌&&◌, ltb, List, Ok, Err, Result, IfOk, nat_lt, refl}
+use Rattle.std.proofs.Common.{⊎_elim, sym, ap, subst}
 use Rattle.std.proofs.lemmas.Bool.{and_parts, and_cases}
 use Rattle.device.specs.declared.fault.Reason.TheVariants.{OffDevice, TakesNoWrites}
 use Rattle.device.specs.Content.{Content, unreadable, holding}
@@ -10,8 +10,11 @@ use Rattle.device.specs.Faults.{Origins, deeper, handed_up}
 use Rattle.device.specs.Calls.{Answer, refused, filled, reading, permitted, AfterWrite}
 use Rattle.device.specs.Cuts.{Cut, CutInWrite}
 use Rattle.pairs.specs.declared.pair.Pair.{Pair}
-use Rattle.pairs.specs.Pairs.{within}
-use Rattle.guard.specs.Guarded.{guarded, own_origin, guard_origins, inside_pair, CutsRise}
+use Rattle.pairs.specs.declared.fault.PairFault.{PairFault}
+use Rattle.pairs.specs.Law.{Adding}
+use Rattle.pairs.specs.Pairs.{in_order, within}
+use Rattle.layer.specs.Kept.{Passed, takes_there, permitted_there, Keeps}
+use Rattle.guard.specs.Guarded.{guarded, guard_origins, inside_pair, guard_target, CutsRise}
 
 module _ (ps : List Pair) (m : Model) (from : Origins) (s : ℕ) where
   -- a sector takes writes if it does below and lies inside no pair
@@ -33,12 +36,7 @@ module _ (ps : List Pair) (m : Model) (from : Origins) (s : ℕ) where
 
   -- a write inside a pair is refused
   pub permitted_inside : (nat_lt s m.count && within ps s) ≡ true → permitted (guarded ps m) (guard_origins ps from) s ≡ Err (inside_pair s)
-  permitted_inside both =
-      let b = (and_parts (nat_lt s m.count) (within ps s) both).0 in
-      let g = (and_parts (nat_lt s m.count) (within ps s) both).1 in
-      ap (λ (x : Bool). cond x (cond (m.writable s && not (within ps s)) (Ok tt) (refused (guard_origins ps from) TakesNoWrites s)) (refused (guard_origins ps from) OffDevice s)) b
-      ∙ (ap (λ (x : Bool). cond (m.writable s && not x) (Ok tt) (Err (record { reason = TakesNoWrites; origin = cond x (own_origin s) (deeper (from TakesNoWrites s)) }))) g
-      ∙ no_way (m.writable s))
+  permitted_inside both = let parts = and_parts (nat_lt s m.count) (within ps s) both in rw (parts.0, parts.1) (no_way (m.writable s))
     where
       no_way : (w : Bool) → ◌≡◌ {A = Answer} (cond (w && false) (Ok tt) (Err (inside_pair s))) (Err (inside_pair s))
       no_way true = refl
@@ -46,9 +44,7 @@ module _ (ps : List Pair) (m : Model) (from : Origins) (s : ℕ) where
 
   -- any other write is the write below
   outside : within ps s ≡ false → permitted (guarded ps m) (guard_origins ps from) s ≡ handed_up (permitted m from s)
-  outside g =
-      ap (λ (x : Bool). cond (nat_lt s m.count) (cond (m.writable s && not x) (Ok tt) (Err (record { reason = TakesNoWrites; origin = cond x (own_origin s) (deeper (from TakesNoWrites s)) }))) (refused (guard_origins ps from) OffDevice s)) g
-      ∙ go (nat_lt s m.count) (m.writable s)
+  outside g = rw g (go (nat_lt s m.count) (m.writable s))
     where
       go : (b w : Bool) → ◌≡◌ {A = Answer} (cond b (cond (w && true) (Ok tt) (refused (λ why t. deeper (from why t)) TakesNoWrites s)) (refused (λ why t. deeper (from why t)) OffDevice s)) (handed_up (cond b (cond w (Ok tt) (refused from TakesNoWrites s)) (refused from OffDevice s)))
       go true true = refl
@@ -56,9 +52,7 @@ module _ (ps : List Pair) (m : Model) (from : Origins) (s : ℕ) where
       go false w = refl
 
   past : ltb s m.count ≡ false → permitted (guarded ps m) (guard_origins ps from) s ≡ handed_up (permitted m from s)
-  past b =
-      ap (λ (x : Bool). cond x (cond (m.writable s && not (within ps s)) (Ok tt) (refused (guard_origins ps from) TakesNoWrites s)) (refused (guard_origins ps from) OffDevice s)) b
-      ∙ sym (ap (λ (x : Bool). handed_up (cond x (cond (m.writable s) (Ok tt) (refused from TakesNoWrites s)) (refused from OffDevice s))) b)
+  past b = rw b
 
   pub permitted_outside : (nat_lt s m.count && within ps s) ≡ false → permitted (guarded ps m) (guard_origins ps from) s ≡ handed_up (permitted m from s)
   permitted_outside neither = ⊎_elim past outside (and_cases (nat_lt s m.count) (within ps s) neither)
@@ -100,3 +94,36 @@ module _ (ps : List Pair) where
   -- the layer is sound where the device below is
   pub guarded_sound : (m : Model) → Sound m → Sound (guarded ps m)
   guarded_sound m sound = record { count = sound.count; tally = sound.tally; whole = sound.whole; past = sound.past }
+
+  -- the layer keeps the meaning of a device
+  pub guarded_keeps : Keeps (guarded ps) (guard_origins ps) (λ n. n) (λ s. Ok s) (guard_target ps)
+  guarded_keeps = record {
+    counted = λ m n e. e;
+    tally = λ m. refl;
+    takes = λ m s. takes m s (nat_lt s m.count) (m.writable s) (within ps s) refl;
+    read = λ m from s area. reading_guarded ps m from s area;
+    permits = λ m from s. permits m from s (nat_lt s m.count && within ps s) refl;
+    written = λ m s t bytes m' r to. written m s t bytes m' r (nat_lt s m.count && within ps s) to;
+    settles = λ m. refl;
+    sound = guarded_sound;
+  }
+    where
+      takes : (m : Model) (s : ℕ) (b w g : Bool) → takes_writes m s ≡ (b && w) → (b && (w && not g)) ≡ takes_there (cond (b && g) (Err (inside_pair s)) (Ok s)) m
+      takes m s true true true below = refl
+      takes m s true true false below = sym below
+      takes m s true false true below = refl
+      takes m s true false false below = sym below
+      takes m s false w g below = sym below
+
+      permits : (m : Model) (from : Origins) (s : ℕ) (b : Bool) → (nat_lt s m.count && within ps s) ≡ b → permitted (guarded ps m) (guard_origins ps from) s ≡ permitted_there (cond b (Err (inside_pair s)) (Ok s)) m from
+      permits m from s true e = permitted_inside ps m from s e
+      permits m from s false e = permitted_outside ps m from s e
+
+      written : (m : Model) (s t : ℕ) (bytes : List ℕ) (m' : Model) (r : Answer) (b : Bool) → ◌≡◌ {A = Passed} (cond b (Err (inside_pair s)) (Ok s)) (Ok t) → AfterWrite m t bytes m' r → AfterWrite (guarded ps m) s bytes (guarded ps m') (handed_up r)
+      written m s t bytes m' r true to w = absurd cc
+      written m s t bytes m' r false to w = let same : t ≡ s = cc in guarded_after m s bytes m' r (subst (λ (u : ℕ). AfterWrite m u bytes m' r) same w)
+
+-- a guard layer has all sectors of the device below
+pub guarded_whole : (ps : List Pair) (p : Pair) (n : ℕ) (r : Result (Unit {0}) PairFault) (after : List Pair) → Adding ps p n r after → in_order 0 after ≡ true → IfOk r (λ _. ◌≡◌ {A = ℕ} n n)
+guarded_whole ps p n (Ok x) after law h = refl
+guarded_whole ps p n (Err f) after law h = tt

@@ -1,114 +1,53 @@
 // The guard layer.
-ghost use Rattle.std.specs.Prelude.{◌≡◌, ◌&&◌, [], nat_lt};
-ghost use Rattle.pairs.specs.Pairs.{added, within};
-ghost use Rattle.pairs.specs.View.{pairs_of};
-ghost use Rattle.guard.specs.Guarded.{guarded, guard_origins, inside_pair, CutsRise};
-ghost use Rattle.guard.specs.Guarding.{guarded_sound};
+ghost use Rattle.guard.specs.Guarded.{guarded, guard_origins, guard_target, CutsRise};
+ghost use Rattle.guard.specs.Guarding.{guarded_keeps, guarded_whole, cuts_rise};
+ghost use Rattle.std.specs.Prelude.{Ok};
 
-use descriptor::kinds::Sector;
-use device::fault::{DeviceFault, Layer, Origin, Reason, hand_up};
-use device::interface::Device;
-use pairs::fault::PairFault;
-use pairs::pair::Pair;
+use device::fault::{self, DeviceFault, Reason};
+use layer::kind::Kind;
+use layer::layer::Layer;
 use pairs::table::Pairs;
 
 // A device that is the one below, but takes no writes inside its pairs.
-#[derive(Drop)]
-pub struct Guard<D> {
-    below: D,
-    pairs: Pairs,
-}
+pub type Guard<D> = Layer<Guarding, D>;
 
-impl<D: Device> Guard<D> {
-    // A layer with no pair yet, which guards nothing.
-    pub fn over(below: D) -> Guard<D>
-        ensures below { result.below ≡ below }
-        ensures pairs { pairs_of result.pairs ≡ [] }
-        ensures cuts { CutsRise (pairs_of result.pairs) }
-    {
-        let pairs = Pairs::none();
-        Guard { below, pairs }
-    }
+// The kind of a layer that takes no writes inside its pairs.
+pub struct Guarding;
 
-    // One more pair. Every cut below is a cut of the layer.
-    pub fn add(&mut self, pair: Pair) -> Result<(), PairFault>
-        ensures value { (result, pairs_of self.new.pairs) ≡ added (pairs_of self.old.pairs) pair (D.Device.model self.old.below).count }
-        ensures below { self.new.below ≡ self.old.below }
-        ensures cuts { CutsRise (pairs_of self.new.pairs) }
-    {
-        let count = self.count();
-        self.pairs.add(pair, count)
-    }
+impl Kind for Guarding {
+    ghost over = { guarded };
 
-    // Whether there is such a sector, inside a pair.
-    fn guards(&self, sector: u32) -> bool
-        ensures { result ≡ (nat_lt sector (D.Device.model self.now.below).count && within (pairs_of self.now.pairs) sector) }
-    {
-        sector < self.count() && self.pairs.hold(sector)
-    }
+    ghost origins = { guard_origins };
 
-    // The device below.
-    pub fn below(&self) -> &D
-        ensures { result.now ≡ self.now.below }
-    {
-        &self.below
-    }
+    ghost count = { λ ps n. n };
 
-    // The layer taken apart for the device below.
-    pub fn into_below(self) -> D
-        ensures { result ≡ self.below }
-    {
-        let Guard { below, pairs: _ } = self;
+    ghost full = { λ ps n. n };
+
+    ghost source = { λ ps s. Ok s };
+
+    ghost target = { guard_target };
+
+    ghost CutLaw = { CutsRise };
+
+    ghost keeps = { λ ps ordered. guarded_keeps ps };
+
+    ghost whole = { guarded_whole };
+
+    ghost cut_law = { λ ps ordered. cuts_rise ps };
+
+    fn count(_pairs: &Pairs, below: u32) -> u32 {
         below
     }
-}
 
-impl<D: Device> Device for Guard<D> {
-    ghost model = { λ g. guarded (pairs_of g.pairs) (D.Device.model g.below) };
-
-    ghost origins = { λ g. guard_origins (pairs_of g.pairs) (D.Device.origins g.below) };
-
-    ghost sound = { λ d. guarded_sound (pairs_of d.pairs) (D.Device.model d.below) (D.Device.sound d.below) };
-
-    fn count(&self) -> u32 {
-        self.below.count()
+    fn source(_pairs: &Pairs, sector: u32) -> Result<u32, DeviceFault> {
+        Ok(sector)
     }
 
-    fn tally(&self) -> u64 {
-        self.below.tally()
-    }
-
-    fn takes_writes(&self, sector: u32) -> bool {
-        self.below.takes_writes(sector) && !self.pairs.hold(sector)
-    }
-
-    fn read(&self, sector: u32, area: &mut Sector) -> Result<(), DeviceFault> {
-        hand_up(self.below.read(sector, area))
-    }
-
-    fn write(&mut self, sector: u32, bytes: &Sector) -> Result<(), DeviceFault> {
-        if self.guards(sector) {
-            return Err(inside_pair(sector));
+    // A write inside a pair is refused, unless there is no such sector.
+    fn target(pairs: &Pairs, below: u32, sector: u32) -> Result<u32, DeviceFault> {
+        if sector < below && pairs.hold(sector) {
+            return Err(DeviceFault::arising(Reason::TakesNoWrites, fault::Layer::Guard, sector));
         }
-        hand_up(self.below.write(sector, bytes))
-    }
-
-    fn settle(&mut self) {
-        self.below.settle();
-    }
-}
-
-// The refusal of a write inside a pair.
-fn inside_pair(sector: u32) -> DeviceFault
-    ensures { result ≡ inside_pair sector }
-{
-    let origin = Origin {
-        layer: Layer::Guard,
-        depth: 0,
-        sector,
-    };
-    DeviceFault {
-        reason: Reason::TakesNoWrites,
-        origin,
+        Ok(sector)
     }
 }

@@ -1,7 +1,0 @@
-use Rattle.std.proofs.Common.{refl}
-use Rattle.pairs.specs.View.{pairs_of}
-use Rattle.guard.specs.Guarding.{cuts_rise}
-use Rattle.guard.proofs.guard.Guard.over.Goals as goal
-
-pub returns : goal.returns
-returns g c = record { below = refl; pairs = c.none-pairs.ensures; cuts = cuts_rise (pairs_of c.none-pairs.result) }

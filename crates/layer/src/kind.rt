@@ -1,0 +1,58 @@
+// The interface of every sort of layer.
+ghost use Rattle.std.specs.Prelude.{◌≡◌, ℕ, true, List, Result, IfOk};
+ghost use Rattle.device.specs.Model.{Model};
+ghost use Rattle.device.specs.Faults.{Origins};
+ghost use Rattle.pairs.specs.declared.pair.Pair.{Pair};
+ghost use Rattle.pairs.specs.declared.fault.PairFault.{PairFault};
+ghost use Rattle.pairs.specs.Pairs.{in_order};
+ghost use Rattle.pairs.specs.View.{pairs_of};
+ghost use Rattle.pairs.specs.Law.{Adding};
+ghost use Rattle.layer.specs.Kept.{Passed, Keeps};
+
+use device::fault::DeviceFault;
+use pairs::table::Pairs;
+
+// What a layer with some pairs makes of the device below.
+pub trait Kind {
+    // the device that the layer is
+    ghost over: { List Pair → Model → Model };
+
+    // where its refusals arise
+    ghost origins: { List Pair → Origins → Origins };
+
+    // how many sectors it has over a device of so many
+    ghost count: { List Pair → ℕ → ℕ };
+
+    // how many it has once all its pairs lie below
+    ghost full: { List Pair → ℕ → ℕ };
+
+    // where a read of a sector goes
+    ghost source: { List Pair → ℕ → Passed };
+
+    // where a write to a sector goes, over a device of so many
+    ghost target: { List Pair → ℕ → ℕ → Passed };
+
+    // what is known of its power cuts
+    ghost CutLaw: { List Pair → Type 0 };
+
+    // How many sectors the layer has over a device of so many.
+    fn count(pairs: &Pairs, below: u32) -> u32
+        ensures { result ≡ count (pairs_of pairs.now) below };
+
+    // The sector below that is read for a sector, or the layer's own refusal.
+    fn source(pairs: &Pairs, sector: u32) -> Result<u32, DeviceFault>
+        ensures { result ≡ source (pairs_of pairs.now) sector };
+
+    // The sector below that is written for a sector, over a device of so many, or the layer's own refusal.
+    fn target(pairs: &Pairs, below: u32, sector: u32) -> Result<u32, DeviceFault>
+        ensures { result ≡ target (pairs_of pairs.now) below sector };
+
+    // the layer keeps the meaning of a device
+    ghost keeps: { (ps : List Pair) → in_order 0 ps ≡ true → Keeps (over ps) (origins ps) (count ps) (source ps) (target ps) };
+
+    // once a pair is accepted, all pairs lie below
+    ghost whole: { (ps : List Pair) (p : Pair) (n : ℕ) (r : Result (Unit {0}) PairFault) (after : List Pair) → Adding ps p n r after → in_order 0 after ≡ true → IfOk r (λ _. count after n ≡ full after n) };
+
+    // its power cuts
+    ghost cut_law: { (ps : List Pair) → in_order 0 ps ≡ true → CutLaw ps };
+}
