@@ -1,11 +1,12 @@
 // Pairs and piles.
 use crate::made::{first_byte, image, queue, write};
-use device::fault::{DeviceFault, Layer, Origin, Reason};
+use device::fault::{self, DeviceFault, Origin, Reason};
 use device::interface::Device;
 use device::through::write_through;
 use gather::gather::Gather;
 use guard::guard::Guard;
-use pairs::fault::PairFault;
+use layer::kind::Kind;
+use layer::layer::Layer;
 use pairs::pair::Pair;
 use queue::queue::Queue;
 use std::alloc::Global;
@@ -94,23 +95,18 @@ const OFFERS: [Offer; 12] = [
     },
 ];
 
-fn pair_number(answer: Result<(), PairFault>) -> u8 {
-    match answer {
-        Ok(()) => 0,
-        Err(fault) => fault.number(),
-    }
+// Offers a layer a pair, and answers the refusal's number, or 0.
+fn offer_to<K: Kind, D: Device>(layer: &mut Layer<K, D>, offset: u32, length: u32) -> u8 {
+    let answer = layer.add(Pair { offset, length });
+    answer.map_or_else(|fault| fault.number(), |()| 0)
 }
 
 #[test]
 fn offers(rt: HostRuntime) -> Result<(), Fail> {
     let mut layer = Gather::over(image(rt.alloc(), 20)?);
-    for offer in &OFFERS {
-        let pair = Pair {
-            offset: offer.offset,
-            length: offer.length,
-        };
-        assert_eq!(rt; pair_number(layer.add(pair)), offer.number);
-        assert_eq!(rt; layer.count(), offer.count);
+    for offered in &OFFERS {
+        let number = offer_to(&mut layer, offered.offset, offered.length);
+        assert_eq!(rt; (number, layer.count()), (offered.number, offered.count));
     }
     Ok(())
 }
@@ -119,29 +115,17 @@ fn offers(rt: HostRuntime) -> Result<(), Fail> {
 fn a_ninth_pair(rt: HostRuntime) -> Result<(), Fail> {
     let mut layer = Guard::over(image(rt.alloc(), 20)?);
     for offset in 0..8u32 {
-        assert_eq!(rt; pair_number(layer.add(Pair { offset, length: 1 })), 0);
+        assert_eq!(rt; offer_to(&mut layer, offset, 1), 0);
     }
-    assert_eq!(rt;
-        pair_number(layer.add(Pair {
-            offset: 8,
-            length: 1,
-        })),
-        34
-    );
-    assert_eq!(rt;
-        pair_number(layer.add(Pair {
-            offset: 0,
-            length: 1,
-        })),
-        34
-    );
+    assert_eq!(rt; offer_to(&mut layer, 8, 1), 34);
+    assert_eq!(rt; offer_to(&mut layer, 0, 1), 34);
     assert_eq!(rt; layer.takes_writes(7), false);
     assert_eq!(rt; layer.takes_writes(8), true);
     Ok(())
 }
 
 // Where a refusal of a pile arose.
-fn refusal(reason: Reason, layer: Layer, depth: u8, sector: u32) -> DeviceFault {
+fn refusal(reason: Reason, layer: fault::Layer, depth: u8, sector: u32) -> DeviceFault {
     let origin = Origin {
         layer,
         depth,
@@ -209,10 +193,10 @@ fn a_pile_of_four(rt: HostRuntime) -> Result<(), Fail> {
     ];
     let expected = [
         Ok(()),
-        Err(refusal(Reason::TakesNoWrites, Layer::Guard, 2, 5)),
+        Err(refusal(Reason::TakesNoWrites, fault::Layer::Guard, 2, 5)),
         Ok(()),
         Ok(()),
-        Err(refusal(Reason::OffDevice, Layer::Gather, 0, 4)),
+        Err(refusal(Reason::OffDevice, fault::Layer::Gather, 0, 4)),
     ];
     assert_eq!(rt; answers, expected);
     assert_eq!(rt;
@@ -245,14 +229,13 @@ fn guarded_sectors(rt: HostRuntime) -> Result<(), Fail> {
         offset: 19,
         length: 1,
     })?;
-    let numbers = [0, 0, 0, 3, 3, 3, 0];
-    for sector in 0..7usize {
-        assert_eq!(rt; write(&mut layer, sector as u32, 6), numbers[sector]);
+    for (sector, number) in (0u32..7).zip([0, 0, 0, 3, 3, 3, 0]) {
+        assert_eq!(rt; write(&mut layer, sector, 6), number);
     }
     let answers = [layer.write(19, &[0; 2048]), layer.write(20, &[0; 2048])];
     let expected = [
-        Err(refusal(Reason::TakesNoWrites, Layer::Guard, 0, 19)),
-        Err(refusal(Reason::OffDevice, Layer::Image, 1, 20)),
+        Err(refusal(Reason::TakesNoWrites, fault::Layer::Guard, 0, 19)),
+        Err(refusal(Reason::OffDevice, fault::Layer::Image, 1, 20)),
     ];
     assert_eq!(rt; answers, expected);
     assert_eq!(rt; layer.tally(), 4);

@@ -31,10 +31,7 @@ pub fn queue(heap: Global, sectors: u16, slots: u8) -> Result<Queue, AllocError>
 
 // The number of a refusal, or 0.
 pub fn number_of(answer: Result<(), DeviceFault>) -> u8 {
-    match answer {
-        Ok(()) => 0,
-        Err(fault) => fault.number(),
-    }
+    answer.map_or_else(|fault| fault.number(), |()| 0)
 }
 
 // Writes a sector full of a byte, and answers the refusal's number, or 0.

@@ -7,7 +7,7 @@ use Rattle.std.proofs.lemmas.List.{length-append, append_assoc, drop-drop, drop-
 use Rattle.std.proofs.lemmas.Bool.{eq-eqb, le-leb, leb-true, and_from, cond-true}
 use Rattle.octets.specs.Fields.{put, over, zeros, exactly, u32_at, part}
 use Rattle.octets.proofs.Runs.{u16_back, u32_back, exactly_whole, over_front, take-over, u32_drop, length-zeros}
-use Rattle.octets.proofs.Scans.{all_decides}
+use Rattle.octets.proofs.Deciding.{all_decides}
 use Rattle.octets.proofs.Tables.{length-joined, row_stands}
 use Rattle.descriptor.specs.declared.kinds.Extent.{Extent}
 use Rattle.descriptor.specs.declared.kinds.FreePair.{FreePair}

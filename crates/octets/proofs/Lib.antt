@@ -1,5 +1,5 @@
 pub mod Runs
 pub mod Steps
 pub mod Tables
-pub mod Scans
+pub mod Deciding
 pub mod Division

@@ -2,5 +2,4 @@ pub mod Fields
 pub mod Crc
 pub mod Tag
 pub mod Rows
-pub mod Every
 pub mod Polynomial

@@ -6,3 +6,4 @@ pub mod fault;
 pub mod pair;
 pub mod search;
 pub mod table;
+pub mod words;

@@ -4,7 +4,6 @@ ghost use Rattle.pile.specs.declared.fault.Fault.TheVariants.{Io, Memory, Device
 
 use device::fault::DeviceFault;
 use pairs::fault::PairFault;
-use refusals::{Refused, RefusedPair};
 use std::alloc::AllocError;
 use std::error::Error;
 use std::{fmt, io};
@@ -57,19 +56,10 @@ impl From<PairFault> for Fault {
 impl fmt::Display for Fault {
     fn fmt<W: fmt::Write>(&self, f: &mut fmt::Formatter<W>) -> fmt::Result {
         match self {
-            Fault::Io(e) => {
-                let e = *e;
-                write!(f, "{e}")
-            }
+            Fault::Io(error) => write!(f, "{error}"),
             Fault::Memory(_) => write!(f, "there is no memory"),
-            Fault::Device(fault) => {
-                let refused = Refused(*fault);
-                write!(f, "{refused}")
-            }
-            Fault::Pair(fault) => {
-                let refused = RefusedPair(*fault);
-                write!(f, "{refused}")
-            }
+            Fault::Device(fault) => write!(f, "{fault}"),
+            Fault::Pair(fault) => write!(f, "{fault}"),
         }
     }
 }

@@ -9,7 +9,6 @@ use guard::guard::Guard;
 use pairs::pair::Pair;
 use queue::pending::Pending;
 use queue::queue::Queue;
-use refusals::RefusedPair;
 use std::alloc::Global;
 use std::io;
 use telling::script::{Call, tell_calls};
@@ -54,26 +53,19 @@ fn build(heap: Global) -> Result<Pile, Fault> {
 
 // Offers a pair that the gather layer refuses, and tells why.
 fn tell_pair(rt: &HostRuntime, pile: &mut Pile, pair: Pair) -> io::Result<()> {
-    let offset = pair.offset;
-    let length = pair.length;
+    let Pair { offset, length } = pair;
     match pile.add(pair) {
         Ok(()) => println!(rt; "pair of {length} sectors from {offset}: accepted"),
-        Err(fault) => {
-            let refused = RefusedPair(fault);
-            println!(rt; "pair of {length} sectors from {offset}: {refused}")
-        }
+        Err(fault) => println!(rt; "pair of {length} sectors from {offset}: {fault}"),
     }
 }
 
 // Tells which sectors of the queue have a write that waits.
 fn tell_waiting(rt: &HostRuntime, pile: &Pile) -> io::Result<()> {
     let queue = pile.below().below();
-    let waiting = queue.waiting();
-    print!(rt; "waiting in the queue: {waiting}")?;
-    for sector in 0..queue.count() {
-        if queue.waits(sector) {
-            print!(rt; ", sector {sector}")?;
-        }
+    print!(rt; "waiting in the queue: {}", queue.waiting())?;
+    for sector in (0..queue.count()).filter(|sector| queue.waits(*sector)) {
+        print!(rt; ", sector {sector}")?;
     }
     println!(rt; "")
 }
@@ -163,15 +155,17 @@ pub fn show_pile(rt: &HostRuntime) -> Result<Counted, Fault>
     ensures { IfOk result (λ n. n.after ≡ (n.before + n.accepted) % 2 ^ 64) }
 {
     let mut pile = build(rt.alloc())?;
-    let count = pile.count();
     println!(rt;
         "A gather layer (sectors 2 to 5 and 10 to 12) over a guard layer (no writes in 0 to 3) over a queue (16 sectors, 2 slots):"
     )?;
-    println!(rt; "sectors of the pile: {count}")?;
+    println!(rt; "sectors of the pile: {}", pile.count())?;
     show_pairs(rt, &mut pile)?;
     let counted = show_all(rt, &mut pile)?;
-    let accepted = counted.accepted;
-    let after = counted.after;
+    let Counted {
+        accepted,
+        after,
+        ..
+    } = counted;
     println!(rt; "writes and settles accepted: {accepted}; tally: {after}")?;
     Ok(counted)
 }

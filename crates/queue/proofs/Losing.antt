@@ -2,7 +2,7 @@
 -- Assumes nothing.
 use Rattle.std.proofs.Common.{◌≡◌, ℕ, zero, suc, Bool, true, false, cond, eqb, List, [], ◌∷◌, take, sym, refl, subst}
 use Rattle.std.specs.List.{AllByRecursion}
-use Rattle.octets.specs.Every.{every}
+use Rattle.std.specs.List.{list_all}
 use Rattle.device.specs.Content.{Content, holding, listed, only}
 use Rattle.device.specs.Calls.{Sublist, keep}
 use Rattle.device.specs.Cuts.{Among, Left, Cut}
@@ -43,7 +43,7 @@ landed_among bs ws n s all =
         subst (λ (l : List Content). Sublist l (listed (lists bs ws s))) (sym (in_order bs (take n ws) s))
         (subst (Sublist (landed bs s ∷ for_sector s (take n ws))) (sym (in_order bs ws s)) (keep (front_waiting s n ws)))
 
-others_lost : (bs : List ℕ) (ws : List Pending) (n tally tally' : ℕ) → every (well_formed (count_of bs)) ws ≡ true → Cut (queue_model bs ws tally) (queue_model (all_landed bs (take n ws)) [] tally')
+others_lost : (bs : List ℕ) (ws : List Pending) (n tally tally' : ℕ) → list_all (well_formed (count_of bs)) ws ≡ true → Cut (queue_model bs ws tally) (queue_model (all_landed bs (take n ws)) [] tally')
 unfolding lists
 others_lost bs ws n tally tally' each =
     let all = (each_decides (count_of bs) ws).0 each in

@@ -11,8 +11,8 @@ use Rattle.std.proofs.lemmas.List.{append-nil, append_assoc, reverse-append}
 use Rattle.std.proofs.lemmas.List.Sums.{fold_push}
 use Rattle.std.proofs.lemmas.Bool.{cases_eq, eq-eqb, ne_eqb, lt-ltb, cond-true, cond_both}
 use Rattle.std.proofs.lemmas.Bool.Decides.{Decides-and, Decides-ltb, Decides-eqb}
-use Rattle.octets.specs.Every.{every}
-use Rattle.octets.proofs.Scans.{every_decides}
+use Rattle.std.specs.List.{list_all}
+use Rattle.octets.proofs.Deciding.{all_decides}
 use Rattle.descriptor.specs.Limits.{sector_bytes}
 use Rattle.device.specs.Content.{Content, Contents, Whole, holding, listed, only, followed}
 use Rattle.device.specs.Model.{Model, Sound}
@@ -33,9 +33,9 @@ use Rattle.queue.specs.declared.pending.Pending.{Pending}
 abbrev pub WellFormed : ℕ → Pending → Type 0
 WellFormed n w = (w.sector < n) × (length w.bytes ≡ sector_bytes)
 
-pub each_decides : (n : ℕ) (ws : List Pending) → Decides (every (well_formed n) ws) (AllByRecursion (WellFormed n) ws)
+pub each_decides : (n : ℕ) (ws : List Pending) → Decides (list_all (well_formed n) ws) (AllByRecursion (WellFormed n) ws)
 each_decides n ws =
-    every_decides (well_formed n) (WellFormed n)
+    all_decides (well_formed n) (WellFormed n)
     (λ w. Decides-and (nat_lt w.sector n) (length w.bytes == sector_bytes) (Decides-ltb w.sector n) (Decides-eqb (length w.bytes) sector_bytes))
     ws
 
@@ -164,12 +164,12 @@ module _
     (new : Pending)
     (bs : List ℕ)
     (ws : List Pending)
-    (each : every (well_formed (count_of bs)) ws ≡ true)
+    (each : list_all (well_formed (count_of bs)) ws ≡ true)
     (good : WellFormed (count_of bs) new)
     (state : List ℕ × List Pending)
     (is : state ≡ accepted slots new bs ws)
   where
-    pub state_formed : every (well_formed (count_of state.0)) state.1 ≡ true
+    pub state_formed : list_all (well_formed (count_of state.0)) state.1 ≡ true
     state_formed =
         (each_decides (count_of state.0) state.1).1
         (subst (λ (x : List ℕ × List Pending). AllByRecursion (WellFormed (count_of x.0)) x.1) (sym is) (accepted_formed slots new bs ws ((each_decides (count_of bs) ws).0 each) good))

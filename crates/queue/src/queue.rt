@@ -1,6 +1,6 @@
 // A queue: sectors in bytes of the caller, and slots of the caller in which writes wait.
 ghost use Rattle.std.specs.Prelude.{◌≡◌, ◌^◌, ◌<◌, true};
-ghost use Rattle.octets.specs.Every.{every};
+ghost use Rattle.std.specs.List.{list_all};
 ghost use Rattle.media.specs.Landed.{count_of};
 ghost use Rattle.media.specs.Stores.{bytes_of};
 ghost use Rattle.queue.specs.Slots.{writes_in};
@@ -17,6 +17,6 @@ pub struct Queue {
     store: Store,
     waiting: Waiting,
     tally: u64,
-    ghost each: { every (well_formed (count_of (bytes_of store))) (writes_in waiting) ≡ true },
+    ghost each: { list_all (well_formed (count_of (bytes_of store))) (writes_in waiting) ≡ true },
     ghost counts: { tally < 2 ^ 64 },
 }
