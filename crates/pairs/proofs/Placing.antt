@@ -1,14 +1,16 @@
 -- Where the sectors of pairs lie below: no two in one place, and how many of them a device has.
 -- Assumes nothing.
-use Rattle.std.proofs.Common.{◌≡◌, ℕ, zero, suc, ◌+◌, ◌-◌, ◌<◌, ◌≤◌, true, ltb, ◌⊎◌, List, [], ◌∷◌, ◌++◌, length, IfOk, Some, None, Ok, Err, Result, sym, refl, ap, ◌∙◌, inl, inr, ⊎_elim, arith}
+use Rattle.std.proofs.Common.{◌≡◌, ℕ, ◌+◌, ◌-◌, ◌<◌, ◌≤◌, true, ltb, ◌⊎◌, List, [], ◌∷◌, ◌++◌, length, IfOk, Some, None, Ok, Err, Result, sym, refl, ap, ◌∙◌, inl, inr, ⊎_elim, arith}
+use Rattle.std.specs.List.{range_with_len}
 use Rattle.std.proofs.lemmas.List.{length-append}
+use Rattle.std.proofs.lemmas.List.FromFn.{length-range_with_len}
 use Rattle.std.proofs.lemmas.Bool.{cases_lt, cond-true, cond-false, lt-ltb, le-ltb}
 use Rattle.std.proofs.lemmas.Bool.Decides.{same_from_decides, Decides-like, Decides-ltb}
 use Rattle.descriptor.proofs.Conditions.{some_same, none_some}
 use Rattle.pairs.specs.declared.pair.Pair.{Pair}
 use Rattle.pairs.specs.declared.fault.PairFault.{PairFault}
 use Rattle.pairs.specs.Pairs.{pair_end, end_after, in_order, place, reached}
-use Rattle.pairs.specs.Law.{run, sectors, Adding}
+use Rattle.pairs.specs.Law.{sectors, Adding}
 use Rattle.pairs.proofs.Ordering.{order, end_after_push, reached_nil, reached_cons, reached_none}
 use Rattle.pairs.proofs.Adding.{end_grows}
 
@@ -101,10 +103,6 @@ reached_out (p ∷ ps) n s e =
     (cases_lt s p.length)
 
 -- a device that has them all
-length_run : (first n : ℕ) → length (run first n) ≡ n
-length_run first zero = refl
-length_run first (suc n) = ap suc (length_run (suc first) n)
-
 pub reached_all : (from : ℕ) (ps : List Pair) (n : ℕ) → in_order from ps ≡ true → end_after from ps ≤ n → reached ps n ≡ length (sectors ps)
 reached_all from [] n h le = reached_nil n
 reached_all from (p ∷ ps) n h le =
@@ -112,8 +110,8 @@ reached_all from (p ∷ ps) n h le =
     let step = reached_cons p ps n in
     let grows : pair_end p ≤ end_after (pair_end p) ps = end_grows (pair_end p) ps o.rest in
     let rest : reached ps n ≡ length (sectors ps) = reached_all (pair_end p) ps n o.rest le in
-    let long : length (run p.offset p.length ++ sectors ps) ≡ length (run p.offset p.length) + length (sectors ps) = length-append (run p.offset p.length) (sectors ps) in
-    let first : length (run p.offset p.length) ≡ p.length = length_run p.offset p.length in
+    let long : length (range_with_len p.offset p.length ++ sectors ps) ≡ length (range_with_len p.offset p.length) + length (sectors ps) = length-append (range_with_len p.offset p.length) (sectors ps) in
+    let first : length (range_with_len p.offset p.length) ≡ p.length = length-range_with_len p.offset p.length in
     omega arith
 
 -- once a pair is accepted, the device has all sectors of the pairs

@@ -1,6 +1,6 @@
 -- Pairs in the subject's own words: when one is accepted, and which sectors they hold.
-use Rattle.std.specs.Prelude.{◌≡◌, ℕ, zero, suc, ◌<◌, ◌≤◌, List, [], ◌∷◌, ◌++◌, length, Ok, Err, Option, Result}
-use Rattle.std.specs.List.{slice_get, flat_map, AllByRecursion}
+use Rattle.std.specs.Prelude.{◌≡◌, ℕ, ◌<◌, ◌≤◌, List, [], ◌∷◌, ◌++◌, length, Ok, Err, Option, Result}
+use Rattle.std.specs.List.{slice_get, flat_map, range_with_len, AllByRecursion}
 use Rattle.descriptor.specs.Law.{Exactly}
 use Rattle.pairs.specs.declared.pair.Pair.{Pair}
 use Rattle.pairs.specs.declared.fault.PairFault.{PairFault}
@@ -30,14 +30,9 @@ pub record Adding (ps : List Pair) (p : Pair) (n : ℕ) (r : Result (Unit {0}) P
   pub then : r ≡ Ok tt → after ≡ ps ++ p ∷ []
   pub else : (f : PairFault) → r ≡ Err f → after ≡ ps
 
--- n numbers from a first one on
-abbrev pub run : ℕ → ℕ → List ℕ
-run first zero = []
-run first (suc n) = first ∷ run (suc first) n
-
 -- the sectors of some pairs, in the order of the pairs
 abbrev pub sectors : List Pair → List ℕ
-sectors ps = flat_map (λ p. run p.offset p.length) ps
+sectors ps = flat_map (λ p. range_with_len p.offset p.length) ps
 
 -- r is the sector with the number s among them, if there is one
 abbrev pub Numbered : List Pair → ℕ → Option ℕ → Type 0

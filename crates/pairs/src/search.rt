@@ -4,7 +4,7 @@ ghost use Rattle.pairs.specs.Pairs.{in_order, place, within};
 
 use crate::pair::Pair;
 
-// The sector below that has a number among the pairs' sectors.
+// The sector below that has a number among the pairs' sectors. A `for`, since each pair changes what is left of the number.
 #[tactic(auto, unfolding(crate::specs::Pairs::place))]
 pub(crate) fn place_of(pairs: &[Pair], sector: u32) -> Option<u32>
     requires { in_order 0 pairs.now ≡ true }

@@ -220,17 +220,13 @@ queue_sound bs ws tally all fits = record {
 }
 
 -- a read: the newest waiting write to the sector, or what has landed
-either_way : (b : Bool) (P : Bool → Type 0) → P true → P false → P b
-either_way true P yes-so not_so = yes-so
-either_way false P yes-so not_so = not_so
-
 newest_overlaid : (s : ℕ) (ws : List Pending) (c : Contents) (area : List ℕ) → c.newest ≡ holding area → (fold followed c (for_sector s ws)).newest ≡ holding (overlaid s area ws)
 newest_overlaid s [] c area e = e
 newest_overlaid s (w ∷ ws) c area e =
-    either_way (s == w.sector)
-    (λ b. (fold followed c (cond b (holding w.bytes ∷ for_sector s ws) (for_sector s ws))).newest ≡ holding (overlaid s (cond b w.bytes area) ws))
-    (newest_overlaid s ws (followed c (holding w.bytes)) w.bytes refl)
-    (newest_overlaid s ws c area e)
+    elim (s == w.sector) as (λ b. (fold followed c (cond b (holding w.bytes ∷ for_sector s ws) (for_sector s ws))).newest ≡ holding (overlaid s (cond b w.bytes area) ws)) [
+      | true ↦ newest_overlaid s ws (followed c (holding w.bytes)) w.bytes refl
+      | false ↦ newest_overlaid s ws c area e
+    ]
 
 -- the bytes that are left are those of the newest write
 pub overlaid_newest : (s : ℕ) (bytes : List ℕ) (ws : List Pending) → overlaid s bytes ws ≡ unwrap_or (newest s ws) bytes

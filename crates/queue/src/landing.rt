@@ -14,7 +14,7 @@ pub(crate) fn land(store: &mut Store, write: &Pending)
     let _ = store.put(write.sector, &write.bytes);
 }
 
-// Lands the writes, the oldest first.
+// Lands the writes, the oldest first. A `for`, since each of them changes the store.
 pub(crate) fn land_all(store: &mut Store, writes: &[Pending])
     ensures { bytes_of store.new ≡ all_landed (bytes_of store.old) writes.now }
 {
