@@ -24,8 +24,8 @@ abbrev pub takes_there : Passed → Model → Bool
 takes_there (Ok t) m = takes_writes m t
 takes_there (Err own) m = false
 
--- a layer keeps the meaning of a device: over each one it is a device, whose calls follow from those of the device below,
--- by the sector that is read there and the one that is written, which may depend on the count
+-- a layer keeps the meaning of a device: over any device it is one, and its calls are those of the device below,
+-- a read at the source of the sector, a write at its target, which may depend on how many sectors there are below
 pub record Keeps (over : Model → Model) (origins : Origins → Origins) (count : ℕ → ℕ) (source : ℕ → Passed) (target : ℕ → ℕ → Passed) : Type 0 where
   pub counted : (m : Model) (n : ℕ) → m.count ≡ n → (over m).count ≡ count n
   pub tally : (m : Model) → (over m).tally ≡ m.tally

@@ -23,7 +23,7 @@ pub trait Kind {
     // how many sectors it has over a device of so many
     ghost count: { List Pair → ℕ → ℕ };
 
-    // how many it has once all its pairs lie below
+    // its full count: how many it has where all its pairs lie below
     ghost full: { List Pair → ℕ → ℕ };
 
     // where a read of a sector goes
@@ -50,9 +50,9 @@ pub trait Kind {
     // the layer keeps the meaning of a device
     ghost keeps: { (ps : List Pair) → in_order 0 ps ≡ true → Keeps (over ps) (origins ps) (count ps) (source ps) (target ps) };
 
-    // once a pair is accepted, all pairs lie below
+    // once a pair is accepted, its count is the full one
     ghost whole: { (ps : List Pair) (p : Pair) (n : ℕ) (r : Result (Unit {0}) PairFault) (after : List Pair) → Adding ps p n r after → in_order 0 after ≡ true → IfOk r (λ _. count after n ≡ full after n) };
 
-    // its power cuts
+    // what is known of its power cuts holds
     ghost cut_law: { (ps : List Pair) → in_order 0 ps ≡ true → CutLaw ps };
 }

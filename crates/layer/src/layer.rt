@@ -35,7 +35,7 @@ impl<K: Kind, D: Device> Layer<K, D> {
         }
     }
 
-    // One more pair. Once it is accepted, all pairs lie below.
+    // One more pair. Once it is accepted, all pairs lie below, and the layer has its full count.
     pub fn add(&mut self, pair: Pair) -> Result<(), PairFault>
         ensures value { (result, pairs_of self.new.pairs) ≡ added (pairs_of self.old.pairs) pair (D.model self.old.below).count }
         ensures below { self.new.below ≡ self.old.below }
