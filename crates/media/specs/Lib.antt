@@ -1,4 +1,3 @@
 pub mod Landed
-pub mod Stores
 pub mod Images
 pub mod Sectors

@@ -2,7 +2,6 @@
 ghost use Rattle.std.specs.Prelude.{◌≡◌, ◌^◌, ◌<◌, is_ok, if◌then◌else◌};
 ghost use Rattle.device.specs.Calls.{permitted, AfterWrite, settled};
 ghost use Rattle.media.specs.Landed.{stored, image_model, image_origins};
-ghost use Rattle.media.specs.Stores.{bytes_of};
 ghost use Rattle.media.specs.Images.{image_sound};
 
 use crate::refusal::off_device;
@@ -22,8 +21,8 @@ pub struct Image {
 impl Image {
     // An image over bytes of the caller; its tally begins at 0.
     pub fn over(bytes: Vec<u8>) -> Image
-        ensures bytes { bytes_of result.store ≡ bytes.items }
-        ensures model { image_model (bytes_of result.store) result.tally ≡ image_model bytes.items 0 }
+        ensures bytes { result.store ≡ bytes.items }
+        ensures model { image_model result.store result.tally ≡ image_model bytes.items 0 }
     {
         let store = Store::over(bytes);
         Image { store, tally: 0 }
@@ -31,7 +30,7 @@ impl Image {
 
     // The bytes, handed back.
     pub fn into_bytes(self) -> Vec<u8>
-        ensures { result.items ≡ bytes_of self.store }
+        ensures { result.items ≡ self.store }
     {
         let Image { store, tally: _ } = self;
         store.into_bytes()
@@ -39,11 +38,11 @@ impl Image {
 }
 
 impl Device for Image {
-    ghost model = { λ d. image_model (bytes_of d.store) d.tally };
+    ghost model = { λ d. image_model d.store d.tally };
 
     ghost origins = { λ _. image_origins };
 
-    ghost sound = { λ d. image_sound (bytes_of d.store) d.tally d.counts };
+    ghost sound = { λ d. image_sound d.store d.tally d.counts };
 
     fn count(&self) -> u32 {
         self.store.count()
@@ -68,10 +67,10 @@ impl Device for Image {
     }
 
     fn write(&mut self, sector: u32, bytes: &Sector) -> Result<(), DeviceFault>
-        ensures answer { result ≡ permitted (image_model (bytes_of self.old.store) self.old.tally) image_origins sector }
-        ensures after { AfterWrite (image_model (bytes_of self.old.store) self.old.tally) sector bytes.now (image_model (bytes_of self.new.store) self.new.tally) result }
+        ensures answer { result ≡ permitted (image_model self.old.store self.old.tally) image_origins sector }
+        ensures after { AfterWrite (image_model self.old.store self.old.tally) sector bytes.now (image_model self.new.store self.new.tally) result }
         ensures origin { image_origins ≡ image_origins }
-        ensures lands { bytes_of self.new.store ≡ (if is_ok result then stored sector bytes.now (bytes_of self.old.store) else bytes_of self.old.store) }
+        ensures lands { self.new.store ≡ (if is_ok result then stored sector bytes.now self.old.store else self.old.store) }
     {
         self.store
             .put(sector, bytes)
@@ -81,9 +80,9 @@ impl Device for Image {
     }
 
     fn settle(&mut self)
-        ensures after { image_model (bytes_of self.new.store) self.new.tally ≡ settled (image_model (bytes_of self.old.store) self.old.tally) }
+        ensures after { image_model self.new.store self.new.tally ≡ settled (image_model self.old.store self.old.tally) }
         ensures origin { image_origins ≡ image_origins }
-        ensures lands { bytes_of self.new.store ≡ bytes_of self.old.store }
+        ensures lands { self.new.store ≡ self.old.store }
     {
         let calls = self.tally.wrapping_add(1);
         self.tally = calls;

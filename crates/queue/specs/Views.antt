@@ -1,7 +1,6 @@
 -- A queue as its contracts see it.
 use Rattle.std.specs.Prelude.{ℕ, List}
 use Rattle.device.specs.Model.{Model}
-use Rattle.media.specs.Stores.{bytes_of}
 use Rattle.queue.specs.Slots.{slots_in, writes_in}
 use Rattle.queue.specs.Waiting.{queue_model}
 use Rattle.queue.specs.declared.pending.Pending.{Pending}
@@ -9,7 +8,7 @@ use Rattle.queue.specs.declared.queue.Queue.{Queue}
 
 -- the bytes that have landed
 abbrev pub landed_bytes : Queue → List ℕ
-landed_bytes q = bytes_of q.store
+landed_bytes q = q.store
 
 -- the writes that wait, the oldest first
 abbrev pub waiting_list : Queue → List Pending

@@ -2,7 +2,6 @@
 ghost use Rattle.std.specs.Prelude.{◌≡◌, ◌^◌, ◌<◌, true};
 ghost use Rattle.std.specs.List.{list_all};
 ghost use Rattle.media.specs.Landed.{count_of};
-ghost use Rattle.media.specs.Stores.{bytes_of};
 ghost use Rattle.queue.specs.Slots.{writes_in};
 ghost use Rattle.queue.specs.Waiting.{well_formed};
 
@@ -17,6 +16,6 @@ pub struct Queue {
     store: Store,
     waiting: Waiting,
     tally: u64,
-    ghost each: { list_all (well_formed (count_of (bytes_of store))) (writes_in waiting) ≡ true },
+    ghost each: { list_all (well_formed (count_of store)) (writes_in waiting) ≡ true },
     ghost counts: { tally < 2 ^ 64 },
 }

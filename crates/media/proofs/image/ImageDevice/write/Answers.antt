@@ -1,13 +1,12 @@
 use Rattle.std.proofs.Common.{arith}
-use Rattle.media.specs.Stores.{bytes_of}
 use Rattle.media.specs.Images.{was_put, image_written}
 use Rattle.media.proofs.image.ImageDevice.write.Goals as goal
 
 pub returns-clause-after : goal.returns-clause-after
 returns-clause-after c =
-    let bs = bytes_of c.args.self.now.store in
+    let bs = c.args.self.now.store in
     let s = c.args.sector in
     let bytes = c.args.bytes.now in
-    let after = bytes_of c.put.new.self in
+    let after = c.put.new.self in
     let p = was_put s bytes bs after c.put.result c.in_ok-ok_or.field-0 c.put.ensures c.in_ok-ok_or.ensures.ok_part in
     image_written bs s c.args.self.now.tally bytes after p.0 (omega arith) p.1
