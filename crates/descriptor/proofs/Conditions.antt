@@ -3,6 +3,7 @@
 use Rattle.std.proofs.Common.{◌≡◌, ℕ, ◌*◌, ◌≤◌, Bool, true, false, cond, eqb, leb, ◌⊎◌, List, Some, None, Decides, Option, refl, ap, ◌∙◌, subst, inl, inr, ⊎_elim, arith}
 use Rattle.std.proofs.lemmas.Bool.Decides.{Decides-and, Decides-eqb, Decides-like}
 use Rattle.std.proofs.lemmas.Bool.{cond-true, le-leb, leb-true, eqb-true}
+use Rattle.std.proofs.lemmas.Option.{same_Some, none-some, cond_some}
 use Rattle.octets.specs.Fields.{byte_at, u16_at, u32_at}
 use Rattle.descriptor.specs.declared.kinds.Place.{Place}
 use Rattle.descriptor.specs.declared.kinds.Place.TheVariants.{Anchor, Sequence, IntegrityExtent}
@@ -16,19 +17,9 @@ decides_leb : (a b : ℕ) → Decides (leb a b) (a ≤ b)
 decides_leb a b = (leb-true a b, le-leb a b)
 
 -- from an answer to the way that led to it
-pub cond_some : {A : Type 0} (b : Bool) (x y : Option A) (d : A) → cond b x y ≡ Some d → ((b ≡ true) × (x ≡ Some d)) ⊎ ((b ≡ false) × (y ≡ Some d))
-cond_some true x y d e = inl (refl, e)
-cond_some false x y d e = inr (refl, e)
-
-pub some_same : {A : Type 0} (x d : A) → ◌≡◌ {A = Option A} (Some x) (Some d) → x ≡ d
-some_same x d e = cc
-
-pub none_some : {A : Type 0} (d : A) → ◌≡◌ {A = Option A} None (Some d) → ⊥
-none_some d e = cc
-
-if_so_some : {A : Type 0} (b : Bool) (x d : A) → if_so b x ≡ Some d → (b ≡ true) × (x ≡ d)
-if_so_some true x d e = (refl, some_same x d e)
-if_so_some false x d e = absurd (none_some d e)
+pub either_some : {A : Type 0} (b : Bool) (x y : Option A) (d : A) → cond b x y ≡ Some d → ((b ≡ true) × (x ≡ Some d)) ⊎ ((b ≡ false) × (y ≡ Some d))
+either_some true x y d e = inl (refl, e)
+either_some false x y d e = inr (refl, e)
 
 module _ (bs : List ℕ) where
   pub tag_decides : Decides (tag_stands bs) (TagRight bs)
@@ -63,21 +54,21 @@ module _ (bs : List ℕ) where
   -- the kind found is one that suits the place, and no other is
   from_sequence : (k : ℕ) → u16_at bs 0 ≡ k → (d : Fields) → sequence_kind k bs ≡ Some d → Suits bs Sequence d
   from_sequence k at d e =
-      ⊎_elim (λ h. hold (primary_in bs) d (some_same _ _ h.1) (primary_suits (is 1 h.0)))
-      (λ r1. ⊎_elim (λ h. hold (implementation_use_in bs) d (some_same _ _ h.1) (implementation_use_suits (is 4 h.0)))
-      (λ r4. ⊎_elim (λ h. hold (partition_in bs) d (some_same _ _ h.1) (partition_suits (is 5 h.0)))
+      ⊎_elim (λ h. hold (primary_in bs) d (same_Some _ _ h.1) (primary_suits (is 1 h.0)))
+      (λ r1. ⊎_elim (λ h. hold (implementation_use_in bs) d (same_Some _ _ h.1) (implementation_use_suits (is 4 h.0)))
+      (λ r4. ⊎_elim (λ h. hold (partition_in bs) d (same_Some _ _ h.1) (partition_suits (is 5 h.0)))
       (λ r5. ⊎_elim
-      (λ h. let w = if_so_some (logical_volume_fits bs) (logical_volume_in bs) d h.1 in
+      (λ h. let w = cond_some (logical_volume_fits bs) (logical_volume_in bs) d h.1 in
       hold (logical_volume_in bs) d w.1 (logical_volume_suits (is 6 h.0) (logical_volume_decides.0 w.0)))
       (λ r6. ⊎_elim
-      (λ h. let w = if_so_some (unallocated_space_fits bs) (unallocated_space_in bs) d h.1 in
+      (λ h. let w = cond_some (unallocated_space_fits bs) (unallocated_space_in bs) d h.1 in
       hold (unallocated_space_in bs) d w.1 (unallocated_space_suits (is 7 h.0) (unallocated_space_decides.0 w.0)))
-      (λ r7. let w = if_so_some (eqb k 8) (terminating_in bs) d r7.1 in hold (terminating_in bs) d w.1 (terminating_suits (is 8 w.0)))
-      (cond_some (eqb k 7) _ _ d r6.1))
-      (cond_some (eqb k 6) _ _ d r5.1))
-      (cond_some (eqb k 5) _ _ d r4.1))
-      (cond_some (eqb k 4) _ _ d r1.1))
-      (cond_some (eqb k 1) _ _ d e)
+      (λ r7. let w = cond_some (eqb k 8) (terminating_in bs) d r7.1 in hold (terminating_in bs) d w.1 (terminating_suits (is 8 w.0)))
+      (either_some (eqb k 7) _ _ d r6.1))
+      (either_some (eqb k 6) _ _ d r5.1))
+      (either_some (eqb k 5) _ _ d r4.1))
+      (either_some (eqb k 4) _ _ d r1.1))
+      (either_some (eqb k 1) _ _ d e)
     where
       is : (n : ℕ) → eqb k n ≡ true → u16_at bs 0 ≡ n
       is n t = at ∙ eqb-true k n t
@@ -87,13 +78,13 @@ module _ (bs : List ℕ) where
 
   from_integrity : (k : ℕ) → u16_at bs 0 ≡ k → (d : Fields) → integrity_kind k bs ≡ Some d → Suits bs IntegrityExtent d
   from_integrity k at d e =
-      ⊎_elim (λ h. hold (terminating_in bs) d (some_same _ _ h.1) (last_integrity_suits (is 8 h.0)))
+      ⊎_elim (λ h. hold (terminating_in bs) d (same_Some _ _ h.1) (last_integrity_suits (is 8 h.0)))
       (λ r8. ⊎_elim
-      (λ h. let w = if_so_some (integrity_fits bs) (integrity_in bs) d h.1 in
+      (λ h. let w = cond_some (integrity_fits bs) (integrity_in bs) d h.1 in
       hold (integrity_in bs) d w.1 (integrity_suits (is 9 h.0) (integrity_decides.0 w.0)))
-      (λ r9. absurd (none_some d r9.1))
-      (cond_some (eqb k 9) _ _ d r8.1))
-      (cond_some (eqb k 8) _ _ d e)
+      (λ r9. absurd (none-some d r9.1))
+      (either_some (eqb k 9) _ _ d r8.1))
+      (either_some (eqb k 8) _ _ d e)
     where
       is : (n : ℕ) → eqb k n ≡ true → u16_at bs 0 ≡ n
       is n t = at ∙ eqb-true k n t
@@ -102,7 +93,7 @@ module _ (bs : List ℕ) where
       hold x y p h = subst (Suits bs IntegrityExtent) p h
 
   pub from_kind : (place : Place) (d : Fields) → kind_in place bs ≡ Some d → Suits bs place d
-  from_kind Anchor d e = let w = if_so_some (eqb (u16_at bs 0) 2) (anchor_in bs) d e in subst (Suits bs Anchor) w.1 (anchor_suits (eqb-true (u16_at bs 0) 2 w.0))
+  from_kind Anchor d e = let w = cond_some (eqb (u16_at bs 0) 2) (anchor_in bs) d e in subst (Suits bs Anchor) w.1 (anchor_suits (eqb-true (u16_at bs 0) 2 w.0))
   from_kind Sequence d e = from_sequence (u16_at bs 0) refl d e
   from_kind IntegrityExtent d e = from_integrity (u16_at bs 0) refl d e
 

@@ -4,6 +4,7 @@ use Rattle.std.proofs.Common.{◌≡◌, ℕ, List, Some, None, Ok, Err, Option,
 use Rattle.std.specs.Option.{ok_or}
 use Rattle.std.proofs.lemmas.Bool.{cases_Bool}
 use Rattle.std.proofs.lemmas.Bool.Decides.{not_from_Decides}
+use Rattle.std.proofs.lemmas.Option.{same_Some, none-some}
 use Rattle.descriptor.specs.declared.kinds.Place.{Place}
 use Rattle.descriptor.specs.declared.refusal.Refusal.{Refusal}
 use Rattle.descriptor.specs.declared.refusal.Refusal.TheVariants as refusal
@@ -11,11 +12,8 @@ use Rattle.descriptor.specs.Kinds.{Fields}
 use Rattle.descriptor.specs.Checks.{tag_stands, location_stands, crc_stands}
 use Rattle.descriptor.specs.Decode.{kind_in, decoded}
 use Rattle.descriptor.specs.Law.{TagRight, LocationRight, CrcRight, Suits, Reading}
-use Rattle.descriptor.proofs.Conditions.{tag_decides, location_decides, crc_decides, from_kind, to_kind, some_same, none_some}
+use Rattle.descriptor.proofs.Conditions.{tag_decides, location_decides, crc_decides, from_kind, to_kind}
 use Rattle.descriptor.proofs.Decoding.{fails_tag, fails_location, fails_crc, by_kind}
-
-ok_same : (x d : Fields) → ◌≡◌ {A = Result Fields Refusal} (Ok x) (Ok d) → x ≡ d
-ok_same x d e = cc
 
 module _ (bs : List ℕ) (number : ℕ) (place : Place) where
   tag_fails : (TagRight bs → ⊥) → Reading bs number place (Err refusal.Tag)
@@ -57,8 +55,8 @@ module _ (bs : List ℕ) (number : ℕ) (place : Place) where
   all_hold : TagRight bs → LocationRight bs number → CrcRight bs → (x : Fields) → kind_in place bs ≡ Some x → Reading bs number place (Ok x)
   all_hold t l c x found = record {
     accepted = λ d. (
-      λ e. (t, l, c, subst (Suits bs place) (ok_same x d e) (from_kind bs place x found)),
-      λ h. ap {B = Result Fields Refusal} Ok (some_same x d (sym found ∙ to_kind bs place d h.3)),
+      λ e. (t, l, c, subst (Suits bs place) (cc) (from_kind bs place x found)),
+      λ h. ap {B = Result Fields Refusal} Ok (same_Some x d (sym found ∙ to_kind bs place d h.3)),
     );
     tag = (λ e. cc, λ h. absurd (h t));
     location = (λ e. cc, λ h. absurd (h.1 l));
@@ -67,7 +65,7 @@ module _ (bs : List ℕ) (number : ℕ) (place : Place) where
   }
 
   by_place : TagRight bs → LocationRight bs number → CrcRight bs → (o : Option Fields) → kind_in place bs ≡ o → Reading bs number place (ok_or o refusal.Kind)
-  by_place t l c None e = kind_fails t l c (λ d h. none_some d (sym e ∙ to_kind bs place d h))
+  by_place t l c None e = kind_fails t l c (λ d h. none-some d (sym e ∙ to_kind bs place d h))
   by_place t l c (Some x) e = all_hold t l c x e
 
   pub reading : Reading bs number place (decoded bs number place)

@@ -5,7 +5,6 @@ ghost use Rattle.descriptor.specs.Law.{Reading};
 ghost use Rattle.descriptor.specs.Kinds.{fields_of};
 ghost use Rattle.descriptor.specs.Named.{NamedBy};
 ghost use Rattle.descriptor.specs.Numbers.{kind_number, state_number};
-ghost use Rattle.descriptor.specs.declared.kinds.Place.TheVariants.{Anchor};
 ghost use Rattle.descriptor.specs.Decode.{extent_at, primary_in, anchor_in, implementation_use_in, partition_in, logical_volume_in, unallocated_space_in, terminating_in, integrity_in, if_so, found, sequence_kind, integrity_kind, kind_in, decoded, answer};
 ghost use Rattle.descriptor.specs.Checks.{logical_volume_fits, unallocated_space_fits, integrity_fits};
 
@@ -148,50 +147,20 @@ fn kind_of(sector: &Sector) -> Option<Kind>
     Kind::try_from(u16_at(sector, 0)).ok()
 }
 
-// Check 4 in a sequence: the descriptor that the sector's kind is there.
-fn in_sequence(sector: &Sector) -> Option<Descriptor<'_>>
-    ensures { found result ≡ sequence_kind (u16_at sector.now 0) sector.now }
-{
-    match kind_of(sector)? {
-        Kind::Primary => Some(primary(sector)),
-        Kind::ImplementationUse => Some(implementation_use(sector)),
-        Kind::Partition => Some(partition(sector)),
-        Kind::LogicalVolume => logical_volume(sector),
-        Kind::UnallocatedSpace => unallocated_space(sector),
-        Kind::Terminating => Some(terminating(sector)),
-        _ => None,
-    }
-}
-
-// Check 4 in the integrity extent.
-fn in_integrity_extent(sector: &Sector) -> Option<Descriptor<'_>>
-    ensures { found result ≡ integrity_kind (u16_at sector.now 0) sector.now }
-{
-    match kind_of(sector)? {
-        Kind::Terminating => Some(terminating(sector)),
-        Kind::Integrity => integrity(sector),
-        _ => None,
-    }
-}
-
-// Check 4 at an anchor's place.
-fn at_anchor(sector: &Sector) -> Option<Descriptor<'_>>
-    ensures { found result ≡ kind_in Anchor sector.now }
-{
-    match kind_of(sector)? {
-        Kind::Anchor => Some(anchor(sector)),
-        _ => None,
-    }
-}
-
 // Check 4: the descriptor that the sector's kind is in its place.
 fn in_place(sector: &Sector, place: Place) -> Option<Descriptor<'_>>
     ensures { found result ≡ kind_in place sector.now }
 {
-    match place {
-        Place::Anchor => at_anchor(sector),
-        Place::Sequence => in_sequence(sector),
-        Place::IntegrityExtent => in_integrity_extent(sector),
+    match (place, kind_of(sector)?) {
+        (Place::Anchor, Kind::Anchor) => Some(anchor(sector)),
+        (Place::Sequence, Kind::Primary) => Some(primary(sector)),
+        (Place::Sequence, Kind::ImplementationUse) => Some(implementation_use(sector)),
+        (Place::Sequence, Kind::Partition) => Some(partition(sector)),
+        (Place::Sequence, Kind::LogicalVolume) => logical_volume(sector),
+        (Place::Sequence, Kind::UnallocatedSpace) => unallocated_space(sector),
+        (Place::Sequence | Place::IntegrityExtent, Kind::Terminating) => Some(terminating(sector)),
+        (Place::IntegrityExtent, Kind::Integrity) => integrity(sector),
+        _ => None,
     }
 }
 

@@ -73,7 +73,7 @@ impl TryFrom<u16> for Kind {
 }
 
 // Where a sector stands: at an anchor's place, in a volume descriptor sequence, or in the integrity extent.
-#[derive(Clone, Copy)]
+#[derive(Clone, Copy, PartialEq, Eq, Debug)]
 pub enum Place {
     Anchor,
     Sequence,
@@ -81,7 +81,7 @@ pub enum Place {
 }
 
 // An extent of sectors: its length in bytes, and its first sector. Length 0 says that there is none.
-#[derive(Clone, Copy)]
+#[derive(Clone, Copy, PartialEq, Eq, Debug)]
 pub struct Extent {
     pub length: u32,
     pub location: u32,
@@ -95,6 +95,14 @@ pub enum Access {
     WriteOnce = 2,
     Rewritable = 3,
     Overwritable = 4,
+}
+
+impl From<Access> for u32 {
+    ghost from_gives = { λ access n. n ≡ access_number access };
+
+    fn from(access: Access) -> u32 {
+        access as u32
+    }
 }
 
 impl TryFrom<u32> for Access {
@@ -116,7 +124,7 @@ impl TryFrom<u32> for Access {
 
 // A partition: its number, its access type, its first sector and its count of sectors. A card may name any number as the
 // access type, and what is read gives back the one that stands there; `Access::try_from` tells what it means.
-#[derive(Clone, Copy)]
+#[derive(Clone, Copy, PartialEq, Eq, Debug)]
 pub struct Partition {
     pub number: u16,
     pub access: u32,
@@ -125,14 +133,15 @@ pub struct Partition {
 }
 
 // A run of sectors that no partition holds: its first sector and its count of sectors.
-#[derive(Clone, Copy)]
+#[derive(Clone, Copy, PartialEq, Eq, Debug)]
 pub struct FreePair {
     pub first: u32,
     pub count: u32,
 }
 
-// A partition map of a logical volume: its type, its length in bytes, the volume and the partition's number there.
-#[derive(Clone, Copy)]
+// A partition map of a logical volume: its type, its length in bytes, the volume and the partition's number there. Any
+// number may stand as the type, and what is read gives it back.
+#[derive(Clone, Copy, PartialEq, Eq, Debug)]
 pub struct PartitionMap {
     pub kind: u8,
     pub length: u8,

@@ -5,5 +5,5 @@ pub mod checks;
 pub mod decode;
 pub mod kinds;
 pub mod refusal;
-pub mod serial;
+pub mod tag;
 pub mod words;

@@ -1,5 +1,5 @@
 // Kinds, states, extents and refusals of descriptors in words.
-use crate::kinds::{Access, Extent, Integrity, Kind};
+use crate::kinds::{Access, Extent, Integrity, Kind, Unknown};
 use crate::refusal::Refusal;
 use std::error::Error;
 use std::fmt;
@@ -37,6 +37,12 @@ impl fmt::Display for Access {
             Access::Rewritable => "rewritable",
             Access::Overwritable => "overwritable",
         })
+    }
+}
+
+impl<N: fmt::Display> fmt::Display for Unknown<N> {
+    fn fmt<W: fmt::Write>(&self, f: &mut fmt::Formatter<W>) -> fmt::Result {
+        write!(f, "the number {} names nothing", self.0)
     }
 }
 

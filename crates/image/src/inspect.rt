@@ -42,10 +42,7 @@ pub fn fill<R: Read>(source: &mut R, sector: &mut Sector) -> io::Result<usize>
     ensures { IfOk result (λ n. n ≤ 2048) }
 {
     let mut filled = 0;
-    for _ in 0..SECTOR_BYTES {
-        if filled == SECTOR_BYTES {
-            break;
-        }
+    while filled < SECTOR_BYTES {
         let count = source.read(&mut sector[filled..])?;
         if count == 0 {
             break;
@@ -65,20 +62,17 @@ pub fn inspect(rt: &HostRuntime, path: &str) -> Result<Summary, Fault>
     let mut sector = [0u8; SECTOR_BYTES];
     let mut summary = Summary::new();
     for number in 0..u32::MAX {
-        let bytes = fill(&mut file, &mut sector)?;
-        if bytes == 0 && number == 0 {
-            return Err(Fault::Empty);
+        match fill(&mut file, &mut sector)? {
+            0 if number == 0 => return Err(Fault::Empty),
+            0 => return Ok(summary),
+            SECTOR_BYTES => report(rt, number, &sector, &mut summary)?,
+            bytes => {
+                return Err(Fault::Partial {
+                    sector: number,
+                    bytes,
+                });
+            }
         }
-        if bytes == 0 {
-            return Ok(summary);
-        }
-        if bytes < SECTOR_BYTES {
-            return Err(Fault::Partial {
-                sector: number,
-                bytes,
-            });
-        }
-        report(rt, number, &sector, &mut summary)?;
     }
     Err(Fault::TooLong)
 }

@@ -13,24 +13,12 @@ use Rattle.recognition.specs.Structure.{structure_in}
 use Rattle.descriptor.proofs.Decoding.{refusals_agree}
 use Rattle.inspection.specs.Findings.{Found, descriptor, structure, refused, blank, other, tag_blank, no_descriptor, at_last, next_place, first_place, examined, Examined}
 
-place_same : (p q : Place) (d e : Fields) → descriptor p d ≡ descriptor q e → p ≡ q
-place_same p q d e same = cc
-
-fields_same : (p q : Place) (d e : Fields) → descriptor p d ≡ descriptor q e → d ≡ e
-fields_same p q d e same = cc
-
-reason_same : (x y : Refusal) → refused x ≡ refused y → x ≡ y
-reason_same x y e = cc
-
-clash : {A : Type 0} (r : Result Fields Refusal) (d : Fields) (x : Refusal) → r ≡ Ok d → r ≡ Err x → A
-clash r d x a b = cc
-
 module _ (bs : List ℕ) (number : ℕ) where
   -- accepted in a place
   in_place : (p : Place) (d : Fields) → decoded bs number p ≡ Ok d → Examined bs number (descriptor p d)
   in_place p d ok = record {
     is_descriptor = λ q e same.
-        subst (λ w. decoded bs number w ≡ Ok e) (place_same p q d e same) (ok ∙ ap {B = Result Fields Refusal} Ok (fields_same p q d e same));
+        subst (λ w. decoded bs number w ≡ Ok e) (cc) (ok ∙ ap {B = Result Fields Refusal} Ok (cc));
     descriptor_found = λ _ _ _. (p, d, refl);
     is_refused = λ why. λ e. cc;
     refused_found = λ none _ _ _. absurd (none p d ok);
@@ -46,7 +34,7 @@ module _ (bs : List ℕ) (number : ℕ) where
     undescribed : (f : Found) → ((p : Place) (d : Fields) → f ≡ descriptor p d → ⊥) → ((why : Refusal) → f ≡ refused why → (z ≡ why) × (tag_blank bs ≡ false) × (sum_stands bs ≡ true)) → (structure_in bs ≡ None → tag_blank bs ≡ false → sum_stands bs ≡ true → f ≡ refused z) → Examined bs number f
     undescribed f no-descr is-it found_it = record {
       is_descriptor = λ p d e. absurd (no-descr p d e);
-      descriptor_found = λ p d ok. clash (decoded bs number p) d z ok (every_place p);
+      descriptor_found = λ p d ok. let z' = every_place p in cc;
       is_refused = λ why e. let h = is-it why e in
           ((λ p. every_place p ∙ ap {B = Result Fields Refusal} Err h.0), h.1, h.2);
       refused_found = λ _ s t u. (z, found_it s t u);
@@ -63,7 +51,7 @@ module _ (bs : List ℕ) (number : ℕ) where
         (λ _ f _. cc)))
         (λ f. ⊎_elim
         (λ t. at (cond-false (tag_blank bs) _ _ f ∙ cond-true (sum_stands bs) _ _ t)
-        (undescribed (refused z) (λ p d e. cc) (λ why same. (reason_same z why same, f, t)) (λ _ _ _. refl)))
+        (undescribed (refused z) (λ p d e. cc) (λ why same. ((cc), f, t)) (λ _ _ _. refl)))
         (λ g. at (cond-false (tag_blank bs) _ _ f ∙ cond-false (sum_stands bs) _ _ g)
         (undescribed other (λ p d e. cc) (λ why e. cc)
         (λ _ _ t. cc)))

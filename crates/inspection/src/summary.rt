@@ -7,7 +7,7 @@ use crate::finding::Finding;
 use std::fmt;
 
 // The counts, which stop at the largest number.
-#[derive(Clone, Copy, PartialEq, Eq, Debug)]
+#[derive(Clone, Copy, PartialEq, Eq, Debug, Default)]
 pub struct Summary {
     pub descriptors: u64,
     pub structures: u64,
@@ -21,13 +21,7 @@ impl Summary {
     pub fn new() -> Summary
         ensures { result ≡ nothing_met }
     {
-        Summary {
-            descriptors: 0,
-            structures: 0,
-            refused: 0,
-            blank: 0,
-            other: 0,
-        }
+        Summary::default()
     }
 
     // One sector more.

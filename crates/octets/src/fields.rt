@@ -7,7 +7,7 @@ ghost use Rattle.octets.specs.Fields.{byte_at, u16_at, u32_at, put, Puts, le16, 
 pub fn byte_at(bytes: &[u8], at: usize) -> u8
     ensures { result ≡ byte_at bytes.now at }
 {
-    if at < bytes.len() { bytes[at] } else { 0 }
+    bytes.get(at).copied().unwrap_or(0)
 }
 
 // The number of 16 bits at an offset.

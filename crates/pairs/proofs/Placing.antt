@@ -6,7 +6,7 @@ use Rattle.std.proofs.lemmas.List.{length-append}
 use Rattle.std.proofs.lemmas.List.FromFn.{length-range_with_len}
 use Rattle.std.proofs.lemmas.Bool.{cases_lt, cond-true, cond-false, lt-ltb, le-ltb}
 use Rattle.std.proofs.lemmas.Bool.Decides.{same_from_decides, Decides-like, Decides-ltb}
-use Rattle.descriptor.proofs.Conditions.{some_same, none_some}
+use Rattle.std.proofs.lemmas.Option.{same_Some, none-some}
 use Rattle.pairs.specs.declared.pair.Pair.{Pair}
 use Rattle.pairs.specs.declared.fault.PairFault.{PairFault}
 use Rattle.pairs.specs.Pairs.{pair_end, end_after, in_order, place, reached}
@@ -19,14 +19,14 @@ place_split : (p : Pair) (ps : List Pair) (s t : ℕ) → place (p ∷ ps) s ≡
 unfolding place
 place_split p ps s t e =
     ⊎_elim
-    (λ lt. inl (lt, some_same (p.offset + s) t (sym (cond-true (ltb s p.length) _ _ (lt-ltb _ _ lt)) ∙ e)))
+    (λ lt. inl (lt, same_Some (p.offset + s) t (sym (cond-true (ltb s p.length) _ _ (lt-ltb _ _ lt)) ∙ e)))
     (λ le. inr (le, sym (cond-false (ltb s p.length) _ _ (le-ltb _ _ le)) ∙ e))
     (cases_lt s p.length)
 
 -- each lies at or past the start of the pairs
 pub place_above : (from : ℕ) (ps : List Pair) (s t : ℕ) → in_order from ps ≡ true → place ps s ≡ Some t → from ≤ t
 unfolding place
-place_above from [] s t h e = absurd (none_some t e)
+place_above from [] s t h e = absurd (none-some t e)
 place_above from (p ∷ ps) s t h e =
     let o = order from p ps h in
     let start : from ≤ p.offset = o.start in
@@ -38,7 +38,7 @@ place_above from (p ∷ ps) s t h e =
 -- two numbers never stand for one sector below
 pub place_one : (from : ℕ) (ps : List Pair) (s u t : ℕ) → in_order from ps ≡ true → place ps s ≡ Some t → place ps u ≡ Some t → s ≡ u
 unfolding place
-place_one from [] s u t h e f = absurd (none_some t e)
+place_one from [] s u t h e f = absurd (none-some t e)
 place_one from (p ∷ ps) s u t h e f =
     let o = order from p ps h in
     ⊎_elim
@@ -55,7 +55,7 @@ place_one from (p ∷ ps) s u t h e f =
 -- a sector is one of those that the device has exactly if the device has it below
 pub reached_only : (from : ℕ) (ps : List Pair) (n s t : ℕ) → in_order from ps ≡ true → place ps s ≡ Some t → s < reached ps n → t < n
 unfolding place
-reached_only from [] n s t h e lt = absurd (none_some t e)
+reached_only from [] n s t h e lt = absurd (none-some t e)
 reached_only from (p ∷ ps) n s t h e lt =
     let o = order from p ps h in
     let step = reached_cons p ps n in
@@ -72,7 +72,7 @@ reached_only from (p ∷ ps) n s t h e lt =
 
 pub reached_every : (from : ℕ) (ps : List Pair) (n s t : ℕ) → in_order from ps ≡ true → place ps s ≡ Some t → t < n → s < reached ps n
 unfolding place
-reached_every from [] n s t h e lt = absurd (none_some t e)
+reached_every from [] n s t h e lt = absurd (none-some t e)
 reached_every from (p ∷ ps) n s t h e lt =
     let o = order from p ps h in
     let step = reached_cons p ps n in
@@ -98,7 +98,7 @@ reached_out [] n s e = omega (arith, reached_nil n)
 reached_out (p ∷ ps) n s e =
     let step = reached_cons p ps n in
     ⊎_elim
-    (λ lt. absurd (none_some (p.offset + s) (sym e ∙ cond-true (ltb s p.length) _ _ (lt-ltb _ _ lt))))
+    (λ lt. absurd (none-some (p.offset + s) (sym e ∙ cond-true (ltb s p.length) _ _ (lt-ltb _ _ lt))))
     (λ le. let rest : reached ps n ≤ s - p.length = reached_out ps n (s - p.length) (sym (cond-false (ltb s p.length) _ _ (le-ltb _ _ le)) ∙ e) in omega arith)
     (cases_lt s p.length)
 

@@ -2,12 +2,13 @@
 -- Assumes nothing.
 use Rattle.std.proofs.Common.{◌≡◌, ℕ, true, ◌&&◌, eqb, List, [], ◌∷◌, Some, Option, refl, ap, ◌∙◌, ap₂, ⊎_elim}
 use Rattle.std.proofs.lemmas.Bool.{and_from, and_parts, cond-true, eq-eqb, eqb-true}
+use Rattle.std.proofs.lemmas.Option.{same_Some, none-some}
 use Rattle.octets.specs.Fields.{byte_at, part}
 use Rattle.recognition.specs.declared.structure.Structure.{Structure}
 use Rattle.recognition.specs.declared.structure.Structure.TheVariants.{Bea01, Boot2, Nsr03, Tea01}
 use Rattle.recognition.specs.Law.{Recognition}
 use Rattle.recognition.specs.Structure.{same_run, code_of, named, structure_in}
-use Rattle.descriptor.proofs.Conditions.{cond_some, some_same, none_some}
+use Rattle.descriptor.proofs.Conditions.{either_some}
 
 same_is : (xs ys : List ℕ) → same_run xs ys ≡ true → xs ≡ ys
 same_is [] [] t = refl
@@ -30,13 +31,13 @@ code_named id s e =
     ⊎_elim (here Bea01)
     (λ r. ⊎_elim (here Boot2)
     (λ q. ⊎_elim (here Nsr03)
-    (λ p. ⊎_elim (here Tea01) (λ n. absurd (none_some s n.1)) (cond_some (same_run id (code_of Tea01)) _ _ s p.1))
-    (cond_some (same_run id (code_of Nsr03)) _ _ s q.1))
-    (cond_some (same_run id (code_of Boot2)) _ _ s r.1))
-    (cond_some (same_run id (code_of Bea01)) _ _ s e)
+    (λ p. ⊎_elim (here Tea01) (λ n. absurd (none-some s n.1)) (either_some (same_run id (code_of Tea01)) _ _ s p.1))
+    (either_some (same_run id (code_of Nsr03)) _ _ s q.1))
+    (either_some (same_run id (code_of Boot2)) _ _ s r.1))
+    (either_some (same_run id (code_of Bea01)) _ _ s e)
   where
     here : (t : Structure) → (same_run id (code_of t) ≡ true) × (◌≡◌ {A = Option Structure} (Some t) (Some s)) → id ≡ code_of s
-    here t h = same_is id (code_of t) h.0 ∙ ap code_of (some_same t s h.1)
+    here t h = same_is id (code_of t) h.0 ∙ ap code_of (same_Some t s h.1)
 
 pub recognition : (bs : List ℕ) → Recognition bs (structure_in bs)
 recognition bs s = (forth, back)
@@ -45,8 +46,8 @@ recognition bs s = (forth, back)
     forth e = ⊎_elim
         (λ h. let t = and_parts (eqb (byte_at bs 0) 0) (eqb (byte_at bs 6) 1) h.0 in
         (eqb-true (byte_at bs 0) 0 t.0, eqb-true (byte_at bs 6) 1 t.1, code_named (part bs 1 5) s h.1))
-        (λ h. absurd (none_some s h.1))
-        (cond_some (eqb (byte_at bs 0) 0 && eqb (byte_at bs 6) 1) _ _ s e)
+        (λ h. absurd (none-some s h.1))
+        (either_some (eqb (byte_at bs 0) 0 && eqb (byte_at bs 6) 1) _ _ s e)
 
     back : (byte_at bs 0 ≡ 0) × (byte_at bs 6 ≡ 1) × (part bs 1 5 ≡ code_of s) → structure_in bs ≡ Some s
     back h =

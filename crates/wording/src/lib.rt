@@ -4,7 +4,6 @@
 use descriptor::kinds::{
     Access, BLOCK_BYTES, Descriptor, Extent, Partition, PartitionMap, Unknown,
 };
-use descriptor::serial::{kind_of, serial_of};
 use inspection::finding::Finding;
 use octets::fields::{byte_at, u16_at};
 use std::fmt;
@@ -222,8 +221,8 @@ impl fmt::Display for Described<'_> {
         write!(
             f,
             "{}, serial {}{}{}{}",
-            kind_of(self.0),
-            serial_of(self.0),
+            self.0.kind(),
+            self.0.serial(),
             Sequenced(self.0),
             VolumeFields(self.0),
             PartFields(self.0)

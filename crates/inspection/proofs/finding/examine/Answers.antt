@@ -3,8 +3,5 @@ use Rattle.inspection.specs.Findings.{Examined}
 use Rattle.inspection.proofs.Examining.{examining}
 use Rattle.inspection.proofs.finding.examine.Goals as goal
 
-pub returns : goal.returns
-returns c = record {
-  value = c.tried.ensures;
-  law = subst (Examined c.args.sector.now c.args.number) (sym c.tried.ensures) (examining c.args.sector.now c.args.number);
-}
+pub returns-clause-law : goal.returns-clause-law
+returns-clause-law c = subst (Examined c.args.sector.now c.args.number) (sym c.tried.ensures) (examining c.args.sector.now c.args.number)

@@ -4,9 +4,6 @@ use Rattle.octets.specs.Polynomial.{Remainder}
 use Rattle.octets.proofs.Division.{remainder}
 use Rattle.octets.proofs.crc.crc_of.Goals as goal
 
-pub returns : goal.returns
-returns c = record {
-  value = c.fold.ensures;
-  law = subst (Remainder c.args.bytes.now) (sym c.fold.ensures)
-      (remainder c.args.bytes.now (All-from_get_or (λ b. b < 256) c.args.bytes.now 0 (λ i _. (c.type_inv.bytes i).fits)));
-}
+pub returns-clause-law : goal.returns-clause-law
+returns-clause-law c = subst (Remainder c.args.bytes.now) (sym c.fold.ensures)
+    (remainder c.args.bytes.now (All-from_get_or (λ b. b < 256) c.args.bytes.now 0 (λ i _. (c.type_inv.bytes i).fits)))
