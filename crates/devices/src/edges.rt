@@ -1,50 +1,51 @@
 // The edges of each device and layer: the last sector, the first past the end, and the tally.
-use crate::made::{image, number_of, queue, write};
+use crate::made::{image, number_of, queue, with_pairs, write};
+use descriptor::kinds::SECTOR_BYTES;
 use device::interface::Device;
 use gather::gather::Gather;
 use guard::guard::Guard;
-use pairs::pair::Pair;
+use queue::queue::Queue;
 use std::process::Abort;
 use std::test::Fail;
 
-// A sector, whether it takes writes, and the refusal of a write and of a read there, or 0.
+// A sector, whether it takes writes, and the refusal of a write and of a read there, if there is one.
 struct Edge {
     sector: u32,
     takes: bool,
-    write: u8,
-    read: u8,
+    write: Option<u8>,
+    read: Option<u8>,
 }
 
 const EDGES: [Edge; 5] = [
     Edge {
         sector: 0,
         takes: true,
-        write: 0,
-        read: 0,
+        write: None,
+        read: None,
     },
     Edge {
         sector: 5,
         takes: true,
-        write: 0,
-        read: 0,
+        write: None,
+        read: None,
     },
     Edge {
         sector: 6,
         takes: false,
-        write: 1,
-        read: 1,
+        write: Some(1),
+        read: Some(1),
     },
     Edge {
         sector: 7,
         takes: false,
-        write: 1,
-        read: 1,
+        write: Some(1),
+        read: Some(1),
     },
     Edge {
         sector: 0xFFFF_FFFF,
         takes: false,
-        write: 1,
-        read: 1,
+        write: Some(1),
+        read: Some(1),
     },
 ];
 
@@ -54,11 +55,11 @@ fn six_sectors<D: Device>(rt: &impl Abort, device: &mut D) {
     for edge in &EDGES {
         let takes = device.takes_writes(edge.sector);
         let answer = write(device, edge.sector, 0x5A);
-        let mut area = [0x77; 2048];
+        let mut area = [0x77; SECTOR_BYTES];
         let read = number_of(device.read(edge.sector, &mut area));
-        let last = if edge.read == 0 { 0x5A } else { 0x77 };
+        let last = if edge.read.is_none() { 0x5A } else { 0x77 };
         assert_eq!(rt;
-            (takes, answer, read, area[2047]),
+            (takes, answer, read, area[SECTOR_BYTES - 1]),
             (edge.takes, edge.write, edge.read, last)
         );
     }
@@ -79,15 +80,7 @@ fn devices(rt: HostRuntime) -> Result<(), Fail> {
 #[test]
 fn layers(rt: HostRuntime) -> Result<(), Fail> {
     six_sectors(&rt, &mut Guard::over(image(rt.alloc(), 6)?));
-    let mut part = Gather::over(queue(rt.alloc(), 20, 1)?);
-    part.add(Pair {
-        offset: 2,
-        length: 4,
-    })?;
-    part.add(Pair {
-        offset: 18,
-        length: 2,
-    })?;
+    let mut part: Gather<Queue> = with_pairs(queue(rt.alloc(), 20, 1)?, &[(2, 4), (18, 2)])?;
     six_sectors(&rt, &mut part);
     Ok(())
 }
@@ -96,7 +89,7 @@ fn layers(rt: HostRuntime) -> Result<(), Fail> {
 fn no_sector(rt: HostRuntime) -> Result<(), Fail> {
     let mut empty = image(rt.alloc(), 0)?;
     assert_eq!(rt; empty.count(), 0);
-    assert_eq!(rt; write(&mut empty, 0, 1), 1);
+    assert_eq!(rt; write(&mut empty, 0, 1), Some(1));
     let nothing = Gather::over(image(rt.alloc(), 6)?);
     assert_eq!(rt; nothing.count(), 0);
     assert_eq!(rt; nothing.takes_writes(0), false);

@@ -1,5 +1,5 @@
 // Pairs and piles.
-use crate::made::{first_byte, image, queue, write};
+use crate::made::{first_byte, full, image, queue, with_pairs, write};
 use device::fault::{self, DeviceFault, Origin, Reason};
 use device::interface::Device;
 use device::through::write_through;
@@ -7,16 +7,17 @@ use gather::gather::Gather;
 use guard::guard::Guard;
 use layer::kind::Kind;
 use layer::layer::Layer;
+use media::image::Image;
 use pairs::pair::Pair;
 use queue::queue::Queue;
 use std::alloc::Global;
 use std::test::Fail;
 
-// A pair offered over a device of 20 sectors, the refusal's number or 0, and the sectors of the layer after it.
+// A pair offered over a device of 20 sectors, the refusal's number if it is refused, and the sectors of the layer after it.
 struct Offer {
     offset: u32,
     length: u32,
-    number: u8,
+    number: Option<u8>,
     count: u32,
 }
 
@@ -24,81 +25,81 @@ const OFFERS: [Offer; 12] = [
     Offer {
         offset: 2,
         length: 0,
-        number: 34,
+        number: Some(34),
         count: 0,
     },
     Offer {
         offset: 2,
         length: 2,
-        number: 0,
+        number: None,
         count: 2,
     },
     Offer {
         offset: 3,
         length: 1,
-        number: 33,
+        number: Some(33),
         count: 2,
     },
     Offer {
         offset: 3,
         length: 0,
-        number: 34,
+        number: Some(34),
         count: 2,
     },
     Offer {
         offset: 4,
         length: 1,
-        number: 0,
+        number: None,
         count: 3,
     },
     Offer {
         offset: 19,
         length: 2,
-        number: 30,
+        number: Some(30),
         count: 3,
     },
     Offer {
         offset: 4,
         length: 40,
-        number: 33,
+        number: Some(33),
         count: 3,
     },
     Offer {
         offset: 0xFFFF_FFFF,
         length: 0xFFFF_FFFF,
-        number: 30,
+        number: Some(30),
         count: 3,
     },
     Offer {
         offset: 10,
         length: 4,
-        number: 0,
+        number: None,
         count: 7,
     },
     Offer {
         offset: 20,
         length: 1,
-        number: 30,
+        number: Some(30),
         count: 7,
     },
     Offer {
         offset: 19,
         length: 1,
-        number: 0,
+        number: None,
         count: 8,
     },
     Offer {
         offset: 20,
         length: 0,
-        number: 34,
+        number: Some(34),
         count: 8,
     },
 ];
 
-// Offers a layer a pair, and answers the refusal's number, or 0.
-fn offer_to<K: Kind, D: Device>(layer: &mut Layer<K, D>, offset: u32, length: u32) -> u8 {
+// Offers a layer a pair, and answers the refusal's number, if it is refused.
+fn offer_to<K: Kind, D: Device>(layer: &mut Layer<K, D>, offset: u32, length: u32) -> Option<u8> {
     let answer = layer.add(Pair { offset, length });
-    answer.map_or_else(|fault| fault.number(), |()| 0)
+    answer.err().map(|fault| fault.number())
 }
 
 #[test]
@@ -115,10 +116,10 @@ fn offers(rt: HostRuntime) -> Result<(), Fail> {
 fn a_ninth_pair(rt: HostRuntime) -> Result<(), Fail> {
     let mut layer = Guard::over(image(rt.alloc(), 20)?);
     for offset in 0..8u32 {
-        assert_eq!(rt; offer_to(&mut layer, offset, 1), 0);
+        assert_eq!(rt; offer_to(&mut layer, offset, 1), None);
     }
-    assert_eq!(rt; offer_to(&mut layer, 8, 1), 34);
-    assert_eq!(rt; offer_to(&mut layer, 0, 1), 34);
+    assert_eq!(rt; offer_to(&mut layer, 8, 1), Some(34));
+    assert_eq!(rt; offer_to(&mut layer, 0, 1), Some(34));
     assert_eq!(rt; layer.takes_writes(7), false);
     assert_eq!(rt; layer.takes_writes(8), true);
     Ok(())
@@ -134,56 +135,17 @@ fn refusal(reason: Reason, layer: fault::Layer, depth: u8, sector: u32) -> Devic
     DeviceFault { reason, origin }
 }
 
-// A queue of 30 sectors, with no writes in 5 to 7.
-fn guarded(heap: Global) -> Result<Guard<Queue>, Fail> {
-    let mut layer = Guard::over(queue(heap, 30, 2)?);
-    layer.add(Pair {
-        offset: 5,
-        length: 2,
-    })?;
-    layer.add(Pair {
-        offset: 7,
-        length: 1,
-    })?;
-    Ok(layer)
-}
-
-// Its sectors 4 to 8 and 29.
-fn six_of(below: Guard<Queue>) -> Result<Gather<Guard<Queue>>, Fail> {
-    let mut layer = Gather::over(below);
-    layer.add(Pair {
-        offset: 4,
-        length: 3,
-    })?;
-    layer.add(Pair {
-        offset: 7,
-        length: 2,
-    })?;
-    layer.add(Pair {
-        offset: 29,
-        length: 1,
-    })?;
-    Ok(layer)
-}
-
-// The first two and the last two of these.
-fn four_of(below: Gather<Guard<Queue>>) -> Result<Gather<Gather<Guard<Queue>>>, Fail> {
-    let mut layer = Gather::over(below);
-    layer.add(Pair {
-        offset: 0,
-        length: 2,
-    })?;
-    layer.add(Pair {
-        offset: 4,
-        length: 2,
-    })?;
-    Ok(layer)
+// A queue of 30 sectors, with no writes in 5 to 7; of that the sectors 4 to 8 and 29; of these the first two and the last two.
+fn pile_of_four(heap: Global) -> Result<Gather<Gather<Guard<Queue>>>, Fail> {
+    let guarded: Guard<Queue> = with_pairs(queue(heap, 30, 2)?, &[(5, 2), (7, 1)])?;
+    let six: Gather<Guard<Queue>> = with_pairs(guarded, &[(4, 3), (7, 2), (29, 1)])?;
+    Ok(with_pairs(six, &[(0, 2), (4, 2)])?)
 }
 
 #[test]
 fn a_pile_of_four(rt: HostRuntime) -> Result<(), Fail> {
-    let mut pile = four_of(six_of(guarded(rt.alloc())?)?)?;
-    let full = [9u8; 2048];
+    let mut pile = pile_of_four(rt.alloc())?;
+    let full = full(9);
     let answers = [
         pile.write(0, &full),
         pile.write(1, &full),
@@ -216,23 +178,11 @@ fn a_pile_of_four(rt: HostRuntime) -> Result<(), Fail> {
 
 #[test]
 fn guarded_sectors(rt: HostRuntime) -> Result<(), Fail> {
-    let mut layer = Guard::over(image(rt.alloc(), 20)?);
-    layer.add(Pair {
-        offset: 3,
-        length: 2,
-    })?;
-    layer.add(Pair {
-        offset: 5,
-        length: 1,
-    })?;
-    layer.add(Pair {
-        offset: 19,
-        length: 1,
-    })?;
-    for (sector, number) in (0u32..7).zip([0, 0, 0, 3, 3, 3, 0]) {
+    let mut layer: Guard<Image> = with_pairs(image(rt.alloc(), 20)?, &[(3, 2), (5, 1), (19, 1)])?;
+    for (sector, number) in (0u32..7).zip([None, None, None, Some(3), Some(3), Some(3), None]) {
         assert_eq!(rt; write(&mut layer, sector, 6), number);
     }
-    let answers = [layer.write(19, &[0; 2048]), layer.write(20, &[0; 2048])];
+    let answers = [layer.write(19, &full(0)), layer.write(20, &full(0))];
     let expected = [
         Err(refusal(Reason::TakesNoWrites, fault::Layer::Guard, 0, 19)),
         Err(refusal(Reason::OffDevice, fault::Layer::Image, 1, 20)),

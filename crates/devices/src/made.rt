@@ -2,7 +2,11 @@
 use descriptor::kinds::{SECTOR_BYTES, Sector};
 use device::fault::DeviceFault;
 use device::interface::Device;
+use layer::kind::Kind;
+use layer::layer::Layer;
 use media::image::Image;
+use pairs::fault::PairFault;
+use pairs::pair::Pair;
 use queue::pending::Pending;
 use queue::queue::Queue;
 use std::alloc::{AllocError, Global};
@@ -29,13 +33,28 @@ pub fn queue(heap: Global, sectors: u16, slots: u8) -> Result<Queue, AllocError>
     Ok(Queue::over(bytes, area))
 }
 
-// The number of a refusal, or 0.
-pub fn number_of(answer: Result<(), DeviceFault>) -> u8 {
-    answer.map_or_else(|fault| fault.number(), |()| 0)
+// A layer with these pairs of offset and length.
+pub fn with_pairs<K: Kind, D: Device + Drop>(
+    below: D,
+    pairs: &[(u32, u32)],
+) -> Result<Layer<K, D>, PairFault> {
+    let mut layer = Layer::over(below);
+    for (offset, length) in pairs {
+        layer.add(Pair {
+            offset: *offset,
+            length: *length,
+        })?;
+    }
+    Ok(layer)
 }
 
-// Writes a sector full of a byte, and answers the refusal's number, or 0.
-pub fn write<D: Device>(device: &mut D, sector: u32, byte: u8) -> u8 {
+// The number of a refusal, if it is one.
+pub fn number_of(answer: Result<(), DeviceFault>) -> Option<u8> {
+    answer.err().map(|fault| fault.number())
+}
+
+// Writes a sector full of a byte, and answers the refusal's number, if it is refused.
+pub fn write<D: Device>(device: &mut D, sector: u32, byte: u8) -> Option<u8> {
     number_of(device.write(sector, &full(byte)))
 }
 

@@ -57,7 +57,7 @@ fn oldest_lands_first(rt: HostRuntime) -> Result<(), Fail> {
             write(&mut device, 2, 3),
             write(&mut device, 0, 4),
         ];
-        assert_eq!(rt; answers, [0, 0, 0, 0]);
+        assert_eq!(rt; answers, [None; 4]);
         assert_eq!(rt; device.waiting(), full.waiting);
         assert_eq!(rt; first_byte(&device, 0)?, 4);
         assert_eq!(rt; landed(&rt, device), full.landed);
@@ -70,7 +70,7 @@ fn a_settle_lands_all(rt: HostRuntime) -> Result<(), Fail> {
     let mut device = queue(rt.alloc(), 4, 3)?;
     assert_eq!(rt;
         [write(&mut device, 3, 7), write(&mut device, 3, 8)],
-        [0, 0]
+        [None; 2]
     );
     assert_eq!(rt;
         (device.waits(3), device.waits(2), device.waiting()),
@@ -89,7 +89,7 @@ fn a_settle_lands_all(rt: HostRuntime) -> Result<(), Fail> {
 #[test]
 fn a_refused_write_does_not_wait(rt: HostRuntime) -> Result<(), Fail> {
     let mut device = queue(rt.alloc(), 4, 3)?;
-    assert_eq!(rt; write(&mut device, 4, 7), 1);
+    assert_eq!(rt; write(&mut device, 4, 7), Some(1));
     assert_eq!(rt; (device.waiting(), device.tally()), (0, 0));
     Ok(())
 }

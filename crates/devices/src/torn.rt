@@ -3,14 +3,13 @@ use descriptor::kinds::Sector;
 use device::torn::is_torn;
 use examples::terminating_example;
 use octets::fields::put_u16;
-use octets::tag::sum_of;
-use sample::damage::turn_bit;
+use sample::damage::{mend_sum, turn_bit};
 
 // The Terminating Descriptor of the examples with a number of 16 bits put at an offset, and its sum made right again.
 fn with(at: usize, value: u16) -> Sector {
     let mut sector = terminating_example();
     put_u16(&mut sector, at, value);
-    sector[4] = sum_of(&sector[0..16]);
+    mend_sum(&mut sector);
     sector
 }
 

@@ -17,7 +17,7 @@ const COVERED: u16 = 496;
 
 // What a tag says besides its descriptor's kind: the serial number that its set of descriptors bears, and the sector
 // where it stands.
-#[derive(Clone, Copy)]
+#[derive(Clone, Copy, PartialEq, Eq, Debug)]
 pub struct Stamp {
     pub serial: u16,
     pub location: u32,

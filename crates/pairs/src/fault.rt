@@ -4,7 +4,7 @@ ghost use Rattle.pairs.specs.Faults.{number_of};
 
 // The first condition that fails: there is room for it and it has a length; it starts at or past the end of the one before;
 // it ends within the device below.
-#[derive(Clone, Copy, Debug)]
+#[derive(Clone, Copy, PartialEq, Eq, Debug)]
 pub enum PairFault {
     OffLimits = 34,
     OutOfOrder = 33,

@@ -6,7 +6,7 @@ ghost use Rattle.pairs.specs.Pairs.{pair_end, holds};
 pub const MOST_PAIRS: usize = 8;
 
 // A run of sectors: its offset, which is its first sector, and its length in sectors.
-#[derive(Clone, Copy, Default)]
+#[derive(Clone, Copy, Default, PartialEq, Eq, Debug)]
 pub struct Pair {
     pub offset: u32,
     pub length: u32,

@@ -123,7 +123,7 @@ const SETTLED: [Call; 5] = [
 ];
 
 // What the demonstration counted: the tally before it, the writes and settles that were accepted, and the tally after it.
-#[derive(Clone, Copy)]
+#[derive(Clone, Copy, PartialEq, Eq, Debug)]
 pub struct Counted {
     pub before: u64,
     pub accepted: u64,

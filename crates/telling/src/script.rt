@@ -7,7 +7,7 @@ use device::interface::Device;
 use std::io;
 
 // A call: a sector is filled with a byte, a sector is read, all that waits is landed.
-#[derive(Clone, Copy)]
+#[derive(Clone, Copy, PartialEq, Eq, Debug)]
 pub enum Call {
     Write { sector: u32, byte: u8 },
     Read { sector: u32 },

@@ -8,26 +8,15 @@ use std::io::Read;
 use std::test::Fail;
 use std::{fs, io};
 
-// Why a file was not inspected.
-fn reason(outcome: Result<Summary, Fault>) -> &'static str {
-    match outcome {
-        Ok(_) => "none",
-        Err(Fault::Empty) => "empty",
-        Err(Fault::Partial { .. }) => "partial",
-        Err(Fault::Io(_)) => "system",
-        Err(_) => "other",
-    }
-}
-
 #[test]
 fn refused_files(rt: HostRuntime) -> Result<(), Fail> {
-    assert_eq!(rt; reason(inspect(&rt, "no-such-image")), "system");
-    assert_eq!(rt; reason(inspect(&rt, ".")), "system", "a folder");
+    assert!(rt; matches!(inspect(&rt, "no-such-image"), Err(Fault::Io(_))));
+    assert!(rt; matches!(inspect(&rt, "."), Err(Fault::Io(_))), "a folder");
     fs::write(&rt, "empty.img", b"")?;
-    assert_eq!(rt; reason(inspect(&rt, "empty.img")), "empty");
+    assert!(rt; matches!(inspect(&rt, "empty.img"), Err(Fault::Empty)));
     let sector = terminating_example();
     fs::write(&rt, "short.img", &sector[0..2047])?;
-    assert_eq!(rt; reason(inspect(&rt, "short.img")), "partial");
+    assert!(rt; matches!(inspect(&rt, "short.img"), Err(Fault::Partial { .. })));
     Ok(())
 }
 
@@ -38,10 +27,12 @@ fn whole_file(rt: HostRuntime) -> Result<(), Fail> {
     image[37 * SECTOR_BYTES..38 * SECTOR_BYTES].copy_from_slice(&sector);
     fs::write(&rt, "whole.img", image.as_slice())?;
     let summary = inspect(&rt, "whole.img")?;
-    assert_eq!(rt; summary.sectors(), 40);
-    assert_eq!(rt; summary.descriptors, 1);
-    assert_eq!(rt; summary.blank, 39);
-    assert_eq!(rt; summary.refused, 0);
+    let found = Summary {
+        descriptors: 1,
+        blank: 39,
+        ..Summary::new()
+    };
+    assert_eq!(rt; (summary, summary.sectors()), (found, 40));
     Ok(())
 }
 

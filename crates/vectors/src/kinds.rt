@@ -5,8 +5,8 @@ use octets::fields::{put_u16, put_u32};
 use sample::damage::mend_sum;
 
 // A sector of a kind, for sector 0, with no byte under its CRC and up to three fields of 32 bits; its refusal's number,
-// or 0 where it passes.
-fn with_fields(kind: u16, place: Place, fields: [(usize, u32); 3]) -> u8 {
+// if it is refused.
+fn with_fields(kind: u16, place: Place, fields: [(usize, u32); 3]) -> Option<u8> {
     let mut sector = [0u8; SECTOR_BYTES];
     put_u16(&mut sector, 0, kind);
     put_u16(&mut sector, 2, 3);
@@ -18,14 +18,14 @@ fn with_fields(kind: u16, place: Place, fields: [(usize, u32); 3]) -> u8 {
 }
 
 // Each row: block size, map table length, count of maps, and the refusal.
-const VOLUMES: [(u32, u32, u32, u8); 7] = [
-    (2048, 0, 0, 0),
-    (2048, 48, 8, 0),
-    (2048, 54, 9, 13),
-    (512, 0, 0, 13),
-    (2048, 5, 1, 13),
-    (2048, 12, 1, 13),
-    (2048, 0x3333_3336, 0x0888_8889, 13),
+const VOLUMES: [(u32, u32, u32, Option<u8>); 7] = [
+    (2048, 0, 0, None),
+    (2048, 48, 8, None),
+    (2048, 54, 9, Some(13)),
+    (512, 0, 0, Some(13)),
+    (2048, 5, 1, Some(13)),
+    (2048, 12, 1, Some(13)),
+    (2048, 0x3333_3336, 0x0888_8889, Some(13)),
 ];
 
 #[test]
@@ -39,14 +39,14 @@ fn logical_volumes(rt: HostRuntime) {
 }
 
 // Each row: count of extents, length of the first, length of the last of sixteen, and the refusal.
-const SPACES: [(u32, u32, u32, u8); 7] = [
-    (0, 0, 0, 0),
-    (16, 2048, 4096, 0),
-    (17, 2048, 2048, 13),
-    (1, 2047, 0, 13),
-    (16, 2048, 1, 13),
-    (15, 2048, 1, 0),
-    (0xFFFF_FFFF, 0, 0, 13),
+const SPACES: [(u32, u32, u32, Option<u8>); 7] = [
+    (0, 0, 0, None),
+    (16, 2048, 4096, None),
+    (17, 2048, 2048, Some(13)),
+    (1, 2047, 0, Some(13)),
+    (16, 2048, 1, Some(13)),
+    (15, 2048, 1, None),
+    (0xFFFF_FFFF, 0, 0, Some(13)),
 ];
 
 #[test]
@@ -60,7 +60,13 @@ fn unallocated_spaces(rt: HostRuntime) {
 }
 
 // Each row: integrity type, count of partitions, and the refusal.
-const STATES: [(u32, u32, u8); 5] = [(0, 0, 0), (1, 8, 0), (2, 0, 13), (0, 9, 13), (256, 0, 13)];
+const STATES: [(u32, u32, Option<u8>); 5] = [
+    (0, 0, None),
+    (1, 8, None),
+    (2, 0, Some(13)),
+    (0, 9, Some(13)),
+    (256, 0, Some(13)),
+];
 
 #[test]
 fn integrity_states(rt: HostRuntime) {
