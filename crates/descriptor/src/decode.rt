@@ -180,7 +180,8 @@ fn checked(sector: &Sector, number: u32, place: Place) -> Result<Descriptor<'_>,
     in_place(sector, place).ok_or(Refusal::Kind)
 }
 
-// The sector with this number, read in its place: what it holds, or the check that it fails first.
+// The sector with this number, read in its place: what it holds, or the check that it fails first. Sector and number are two
+// arguments: a struct of both would be made at each call, and taken apart at once.
 pub fn decode(sector: &Sector, number: u32, place: Place) -> Result<Descriptor<'_>, Refusal>
     ensures value { answer result ≡ decoded sector.now number place }
     ensures law { Reading sector.now number place (answer result) }

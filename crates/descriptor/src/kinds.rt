@@ -178,7 +178,8 @@ impl TryFrom<u32> for Integrity {
     }
 }
 
-// What a sector holds that passed the checks. Identifiers, dates and tables are parts of the sector itself.
+// What a sector holds that passed the checks. Identifiers, dates and tables are parts of the sector itself, and a partition's
+// flags are the format's bits.
 #[derive(Clone, Copy)]
 pub enum Descriptor<'a> {
     Primary {

@@ -1,7 +1,7 @@
 -- Torn sectors: the test says what the words say, and no torn sector passes as a descriptor.
 -- Assumes nothing.
 use Rattle.std.proofs.Common.{◌≡◌, ℕ, Bool, true, false, not, ◌||◌, eqb, List, is_ok, Ok, Err, Decides, Result, refl, ⊎_elim}
-use Rattle.std.proofs.lemmas.Bool.{not-true, not_from_false, eqb-false, ne_eqb, or_cases, or_parts, or_left, or_right, or_from}
+use Rattle.std.proofs.lemmas.Bool.{not-true, not_from_false, eqb-false, ne_eqb, or_cases, or_parts, or_left, or_right, or_from, false_from_ne_true}
 use Rattle.std.proofs.lemmas.Bool.Decides.{not_from_Decides}
 use Rattle.octets.specs.Fields.{u16_at}
 use Rattle.descriptor.specs.declared.refusal.Refusal.{Refusal}
@@ -33,17 +33,13 @@ from_test bs t = ⊎_elim sum_fails later (or_cases (not (sum_stands bs)) (not (
     later u = ⊎_elim version_fails crc_fails (or_cases (not (version_known bs)) (not (crc_stands bs)) u)
 
 -- a test that does not hold is false
-false_from : (b : Bool) → (b ≡ true → ⊥) → b ≡ false
-false_from true h = absurd (h refl)
-false_from false h = refl
-
 -- the test, from what fails
 to_test : {c : Content} → Torn c → torn c ≡ true
 to_test unread = refl
 to_test (wrong_sum {bytes} h) = or_left _ _ (not_from_false _ (ne_eqb _ _ h))
 to_test (wrong_version {bytes} h g) = or_right (not (sum_stands bytes)) _ (or_left _ _ (not_from_false _ (or_from _ _ (ne_eqb _ _ h) (ne_eqb _ _ g))))
 to_test (wrong_crc {bytes} h) =
-    or_right (not (sum_stands bytes)) _ (or_right (not (version_known bytes)) _ (not_from_false _ (false_from (crc_stands bytes) (λ e. h ((crc_decides bytes).0 e)))))
+    or_right (not (sum_stands bytes)) _ (or_right (not (version_known bytes)) _ (not_from_false _ (false_from_ne_true (crc_stands bytes) (λ e. h ((crc_decides bytes).0 e)))))
 
 pub torn_decides : (bs : List ℕ) → Decides (torn (holding bs)) (Torn (holding bs))
 torn_decides bs = (from_test bs, to_test)

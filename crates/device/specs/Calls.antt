@@ -58,9 +58,4 @@ AfterWrite m s bytes m' (Err fault) = m' ≡ m
 
 -- what a settle leaves: each list cut to its newest content
 abbrev pub settled : Model → Model
-settled m = record {
-  count = m.count;
-  contents = λ s. only (m.contents s).newest;
-  writable = m.writable;
-  tally = counted m.tally;
-}
+settled m = record m { contents = λ s. only (m.contents s).newest; tally = counted m.tally }

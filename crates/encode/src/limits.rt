@@ -18,14 +18,12 @@ pub enum OffLimits {
 }
 
 impl OffLimits {
-    // The refusal's number.
+    // The refusal's number: one for all three, and so no discriminant.
     pub fn number(self) -> u8
         ensures { result ≡ limit_number self }
     {
         match self {
-            OffLimits::Partitions => 34,
-            OffLimits::Pairs => 34,
-            OffLimits::PairLength => 34,
+            OffLimits::Partitions | OffLimits::Pairs | OffLimits::PairLength => 34,
         }
     }
 }

@@ -16,7 +16,7 @@ const VERSION: u16 = 3;
 const COVERED: u16 = 496;
 
 // What a tag says besides its descriptor's kind: the serial number that its set of descriptors bears, and the sector
-// where it stands.
+// where it stands. A sequence number is no part of it: it stands behind the tag, and three of seven descriptors have none.
 #[derive(Clone, Copy, PartialEq, Eq, Debug)]
 pub struct Stamp {
     pub serial: u16,

@@ -5,7 +5,7 @@ use Rattle.device.specs.declared.fault.Origin.{Origin}
 use Rattle.device.specs.declared.fault.Reason.TheVariants.{OffDevice}
 use Rattle.device.specs.declared.fault.Layer.TheVariants.{Gather}
 use Rattle.device.specs.Model.{Model, nowhere}
-use Rattle.device.specs.Faults.{Origins, deeper}
+use Rattle.device.specs.Faults.{Origins, origin_in, arising, deeper}
 use Rattle.device.specs.Cuts.{Cut, CutInWrite}
 use Rattle.pairs.specs.declared.pair.Pair.{Pair}
 use Rattle.pairs.specs.Pairs.{place, reached}
@@ -27,13 +27,13 @@ gathered ps m = record {
 
 -- the layer refuses a sector that no pair has; any other refusal arises below
 abbrev pub own_origin : ℕ → Origin
-own_origin s = record { layer = Gather; depth = 0; sector = s }
+own_origin s = origin_in Gather s
 
 abbrev pub gather_origins : List Pair → Origins → Origins
 gather_origins ps below why s = via (place ps s) (own_origin s) (λ t. deeper (below why t))
 
 abbrev pub off_layer : ℕ → DeviceFault
-off_layer s = record { reason = OffDevice; origin = own_origin s }
+off_layer s = arising OffDevice Gather s
 
 -- a call goes to the sector below, if there is one
 abbrev pub gather_source : List Pair → ℕ → Passed

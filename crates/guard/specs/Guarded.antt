@@ -5,7 +5,7 @@ use Rattle.device.specs.declared.fault.Origin.{Origin}
 use Rattle.device.specs.declared.fault.Reason.TheVariants.{OffDevice, Unreadable, TakesNoWrites}
 use Rattle.device.specs.declared.fault.Layer.TheVariants.{Guard}
 use Rattle.device.specs.Model.{Model, takes_writes}
-use Rattle.device.specs.Faults.{Origins, deeper}
+use Rattle.device.specs.Faults.{Origins, origin_in, arising, deeper}
 use Rattle.device.specs.Cuts.{Cut, CutInWrite}
 use Rattle.pairs.specs.declared.pair.Pair.{Pair}
 use Rattle.pairs.specs.Pairs.{within}
@@ -13,16 +13,11 @@ use Rattle.layer.specs.Kept.{Passed}
 
 -- the device below, but no sector inside a pair takes writes
 abbrev pub guarded : List Pair → Model → Model
-guarded ps m = record {
-  count = m.count;
-  contents = m.contents;
-  writable = λ s. m.writable s && not (within ps s);
-  tally = m.tally;
-}
+guarded ps m = record m { writable = λ s. m.writable s && not (within ps s) }
 
 -- the layer refuses a write inside a pair; any other refusal arises below
 abbrev pub own_origin : ℕ → Origin
-own_origin s = record { layer = Guard; depth = 0; sector = s }
+own_origin s = origin_in Guard s
 
 abbrev pub guard_origins : List Pair → Origins → Origins
 guard_origins ps below OffDevice s = deeper (below OffDevice s)
@@ -30,7 +25,7 @@ guard_origins ps below Unreadable s = deeper (below Unreadable s)
 guard_origins ps below TakesNoWrites s = cond (within ps s) (own_origin s) (deeper (below TakesNoWrites s))
 
 abbrev pub inside_pair : ℕ → DeviceFault
-inside_pair s = record { reason = TakesNoWrites; origin = own_origin s }
+inside_pair s = arising TakesNoWrites Guard s
 
 -- a write goes to its own sector, but not inside a pair, where there is such a sector
 abbrev pub guard_target : List Pair → ℕ → ℕ → Passed

@@ -23,6 +23,7 @@ pub enum Fault {
     Usage,
 }
 
+// Each type of fault has conversions of its own: those that `thiserror` derives have no contract.
 impl From<io::Error> for Fault {
     ghost from_gives = { λ e r. r ≡ Io e };
 

@@ -12,11 +12,11 @@ one_more n = min (n + 1) (2 ^ 64 - 1)
 
 -- one sector more, counted by what it is, and by nothing else
 abbrev pub noted : Found → Summary → Summary
-noted (descriptor p d) s = record { descriptors = one_more s.descriptors; structures = s.structures; refused = s.refused; blank = s.blank; other = s.other }
-noted (structure t) s = record { descriptors = s.descriptors; structures = one_more s.structures; refused = s.refused; blank = s.blank; other = s.other }
-noted (refused f) s = record { descriptors = s.descriptors; structures = s.structures; refused = one_more s.refused; blank = s.blank; other = s.other }
-noted blank s = record { descriptors = s.descriptors; structures = s.structures; refused = s.refused; blank = one_more s.blank; other = s.other }
-noted other s = record { descriptors = s.descriptors; structures = s.structures; refused = s.refused; blank = s.blank; other = one_more s.other }
+noted (descriptor p d) s = record s { descriptors = one_more s.descriptors }
+noted (structure t) s = record s { structures = one_more s.structures }
+noted (refused f) s = record s { refused = one_more s.refused }
+noted blank s = record s { blank = one_more s.blank }
+noted other s = record s { other = one_more s.other }
 
 abbrev pub all_met : Summary → ℕ
 all_met s = s.descriptors + s.structures + s.refused + s.blank + s.other

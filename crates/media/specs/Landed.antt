@@ -3,7 +3,7 @@ use Rattle.std.specs.Prelude.{ℕ, ◌*◌, ◌/◌, min, true, cond, List, leng
 use Rattle.octets.specs.Fields.{part, put}
 use Rattle.descriptor.specs.Limits.{sector_bytes}
 use Rattle.device.specs.Content.{Content, unreadable, holding, only}
-use Rattle.device.specs.Faults.{Origins, arising}
+use Rattle.device.specs.Faults.{Origins, origin_in, arising}
 use Rattle.device.specs.Model.{Model}
 use Rattle.device.specs.declared.fault.DeviceFault.{DeviceFault}
 use Rattle.device.specs.declared.fault.Layer.{Layer}
@@ -45,7 +45,7 @@ image_model bs tally = record {
 
 -- the refusals of a device at the bottom: no layer lies above it, and it numbers sectors as its caller does
 abbrev pub origins_at : Layer → Origins
-origins_at layer why s = record { layer = layer; depth = 0; sector = s }
+origins_at layer why s = origin_in layer s
 
 abbrev pub off_device : Layer → ℕ → DeviceFault
 off_device layer s = arising OffDevice layer s

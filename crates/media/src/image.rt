@@ -10,7 +10,8 @@ use descriptor::kinds::Sector;
 use device::fault::{DeviceFault, Layer};
 use device::interface::Device;
 
-// The sectors, and how many writes and settles were accepted, modulo 2^64.
+// The sectors, and how many writes and settles were accepted, modulo 2^64. That the tally has 64 bits is a ghost field, and no
+// model hides it: the law of a device is proved from it.
 #[derive(Drop)]
 pub struct Image {
     store: Store,
@@ -37,6 +38,7 @@ impl Image {
     }
 }
 
+// What is asked is answered in a line from the fields at hand, here and in the queue.
 impl Device for Image {
     ghost model = { λ d. image_model d.store d.tally };
 

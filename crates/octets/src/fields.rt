@@ -10,6 +10,8 @@ pub fn byte_at(bytes: &[u8], at: usize) -> u8
     bytes.get(at).copied().unwrap_or(0)
 }
 
+// A function for each width, here and where a number is put, as std has `from_le_bytes` of each type: a trait for both would
+// hold the same bodies, and hide the width where a field is read.
 // The number of 16 bits at an offset.
 pub fn u16_at(bytes: &[u8], at: usize) -> u16
     ensures { result ≡ u16_at bytes.now at }

@@ -9,6 +9,7 @@ const SUM_AT: usize = 4;
 pub fn sum_of(tag: &[u8]) -> u8
     ensures { result ≡ tag_sum tag.now }
 {
+    // A `for`: as a chain (`take`, `chain`, `skip`, `fold`) the sum was not proved.
     let mut sum = 0u8;
     for (i, byte) in tag.iter().enumerate() {
         if i != SUM_AT {

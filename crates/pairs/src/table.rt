@@ -5,7 +5,8 @@ ghost use Rattle.pairs.specs.Pairs.{in_order};
 use crate::pair::{MOST_PAIRS, Pair};
 use arrayvec::ArrayVec;
 
-// Up to 8 pairs, each at or past the end of the one before.
+// Up to 8 pairs, each at or past the end of the one before. Their order is a ghost field, and no model hides it: the laws of a
+// layer are proved from it.
 #[derive(Drop)]
 pub struct Pairs {
     pub(crate) items: ArrayVec<Pair, MOST_PAIRS>,

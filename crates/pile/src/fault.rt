@@ -21,6 +21,7 @@ pub enum Fault {
     Pair(PairFault),
 }
 
+// Each type of fault has conversions of its own: those that `thiserror` derives have no contract.
 impl From<io::Error> for Fault {
     ghost from_gives = { λ e r. r ≡ Io e };
 

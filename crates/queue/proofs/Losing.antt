@@ -1,8 +1,8 @@
 -- What a queue loses at a power cut.
 -- Assumes nothing.
 use Rattle.std.proofs.Common.{◌≡◌, ℕ, zero, suc, Bool, true, false, cond, eqb, List, [], ◌∷◌, take, sym, refl, subst}
-use Rattle.std.specs.List.{AllByRecursion}
-use Rattle.std.specs.List.{list_all}
+use Rattle.std.specs.List.{list_all, AllByRecursion}
+use Rattle.std.proofs.ByRecursion.{All-take}
 use Rattle.device.specs.Content.{Content, holding, listed, only}
 use Rattle.device.specs.Calls.{Sublist, keep}
 use Rattle.device.specs.Cuts.{Among, Left, Cut}
@@ -17,12 +17,6 @@ in_order : (bs : List ℕ) (ws : List Pending) (s : ℕ) → listed (lists bs ws
 unfolding lists
 in_order bs ws s = listed_folded (only (landed bs s)) (for_sector s ws)
 
--- the oldest of some writes
-all_front : {A : Type 0} (P : A → Type 0) (n : ℕ) (xs : List A) → AllByRecursion P xs → AllByRecursion P (take n xs)
-all_front P zero xs all = tt
-all_front P (suc n) [] all = tt
-all_front P (suc n) (x ∷ xs) all = (all.0, all_front P n xs all.1)
-
 front_waiting : (s n : ℕ) (ws : List Pending) → Sublist (for_sector s (take n ws)) (for_sector s ws)
 front_waiting s zero ws = sublist_none (for_sector s ws)
 front_waiting s (suc n) [] = sublist_none []
@@ -35,7 +29,7 @@ front_waiting s (suc n) (w ∷ ws) = with_first (eqb s w.sector) (front_waiting 
 -- what has landed once they have is one of the sector's list
 landed_among : (bs : List ℕ) (ws : List Pending) (n s : ℕ) → AllByRecursion (WellFormed (count_of bs)) ws → Among (landed (all_landed bs (take n ws)) s) (listed (lists bs ws s))
 landed_among bs ws n s all =
-    subst (λ (x : Content). Among x (listed (lists bs ws s))) (sym (newest_landed bs (take n ws) (all_front (WellFormed (count_of bs)) n ws all) s))
+    subst (λ (x : Content). Among x (listed (lists bs ws s))) (sym (newest_landed bs (take n ws) (All-take (WellFormed (count_of bs)) n ws all) s))
     (among_sublist (lists bs (take n ws) s).newest front (among_last (lists bs (take n ws) s).newest (lists bs (take n ws) s).earlier))
   where
     front : Sublist (listed (lists bs (take n ws) s)) (listed (lists bs ws s))
@@ -48,7 +42,7 @@ unfolding lists
 others_lost bs ws n tally tally' each =
     let all = (each_decides (count_of bs) ws).0 each in
     record {
-      count = count_all bs (take n ws) (all_front (WellFormed (count_of bs)) n ws all);
+      count = count_all bs (take n ws) (All-take (WellFormed (count_of bs)) n ws all);
       writable = refl;
       single = λ s. refl;
       left = λ s. Left.listed_before (landed_among bs ws n s all);

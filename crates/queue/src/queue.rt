@@ -10,7 +10,8 @@ pub mod calls;
 use crate::waiting::Waiting;
 use media::store::Store;
 
-// The bytes that have landed, the writes that wait, and how many writes and settles were accepted, modulo 2^64.
+// The bytes that have landed, the writes that wait, and how many writes and settles were accepted, modulo 2^64. What holds of
+// them is in ghost fields, and no model hides it: the law of a device is proved from it.
 #[derive(Drop)]
 pub struct Queue {
     store: Store,

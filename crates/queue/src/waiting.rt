@@ -17,24 +17,26 @@ pub(crate) struct Waiting {
 }
 
 impl Waiting {
+    ghost use Rattle.queue.specs.Slots.{slots_in, writes_in};
+
     // No write waits.
     pub(crate) fn none(slots: Vec<Pending>) -> Waiting
         ensures slots { result.slots.items ≡ slots.items }
-        ensures writes { take result.count result.slots.items ≡ [] }
+        ensures writes { writes_in result ≡ [] }
     {
         Waiting { slots, count: 0 }
     }
 
     // The writes that wait, the oldest first.
     pub(crate) fn writes(&self) -> &[Pending]
-        ensures { result.now ≡ take self.now.count self.now.slots.items }
+        ensures { result.now ≡ writes_in self.now }
     {
         &self.slots[..self.count]
     }
 
     // The bytes of the newest of them to a sector.
     pub(crate) fn newest(&self, sector: u32) -> Option<&Sector>
-        ensures { option_copied result ≡ newest sector (take self.now.count self.now.slots.items) }
+        ensures { option_copied result ≡ newest sector (writes_in self.now) }
     {
         self.writes()
             .iter()
@@ -45,8 +47,8 @@ impl Waiting {
 
     // Puts a new write behind the others. Where no slot is free, the oldest of all comes out.
     pub(crate) fn push(&mut self, new: Pending) -> Option<Pending>
-        ensures state { (result, take self.new.count self.new.slots.items) ≡ pushed (vec_len self.old.slots) new (take self.old.count self.old.slots.items) }
-        ensures slots { vec_len self.new.slots ≡ vec_len self.old.slots }
+        ensures state { (result, writes_in self.new) ≡ pushed (slots_in self.old) new (writes_in self.old) }
+        ensures slots { slots_in self.new ≡ slots_in self.old }
     {
         if self.count < self.slots.len() {
             self.slots[self.count] = new;
@@ -63,7 +65,7 @@ impl Waiting {
 
     // Leaves no write waiting.
     pub(crate) fn clear(&mut self)
-        ensures writes { take self.new.count self.new.slots.items ≡ [] }
+        ensures writes { writes_in self.new ≡ [] }
         ensures slots { self.new.slots.items ≡ self.old.slots.items }
     {
         self.count = 0;

@@ -6,7 +6,8 @@ use crate::calls::{tell_read, tell_write};
 use device::interface::Device;
 use std::io;
 
-// A call: a sector is filled with a byte, a sector is read, all that waits is landed.
+// A call: a sector is filled with a byte, a sector is read, all that waits is landed. It is data, and no closure, so that a
+// list of calls can be a constant and is told call by call.
 #[derive(Clone, Copy, PartialEq, Eq, Debug)]
 pub enum Call {
     Write { sector: u32, byte: u8 },

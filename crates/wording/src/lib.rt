@@ -15,10 +15,8 @@ pub struct Name<'a>(pub &'a [u8]);
 
 impl fmt::Display for Name<'_> {
     fn fmt<W: fmt::Write>(&self, f: &mut fmt::Formatter<W>) -> fmt::Result {
-        let end = match self.0.iter().rposition(|byte| *byte != 0) {
-            Some(last) => last + 1,
-            None => 0,
-        };
+        let last = self.0.iter().rposition(|byte| *byte != 0);
+        let end = last.map_or(0, |last| last + 1);
         for byte in &self.0[..end] {
             let shown = if byte.is_ascii_graphic() || *byte == b' ' {
                 char::from(*byte)
@@ -138,7 +136,8 @@ impl fmt::Display for Sequenced<'_> {
     }
 }
 
-// The main fields of the descriptors of a volume as a whole.
+// The main fields of the descriptors of a volume as a whole. One match of all eight kinds would be longer than the 40 lines that
+// a function may have here, so the fields come in parts.
 #[derive(Clone, Copy)]
 pub struct VolumeFields<'a>(pub Descriptor<'a>);
 
