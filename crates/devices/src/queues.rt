@@ -1,20 +1,20 @@
 // The queue: what waits, what lands and when.
 use crate::made::{first_byte, queue, write};
+use device::fault::DeviceFault;
 use device::interface::Device;
+use media::image::Image;
 use queue::queue::Queue;
-use std::process::Abort;
 use std::test::Fail;
 
 // The first byte of each of the first four sectors as it has landed.
-fn landed(rt: &impl Abort, queue: Queue) -> [u8; 4] {
-    let parts = queue.into_parts();
-    assert!(rt; parts.bytes.len() >= 8192);
-    [
-        parts.bytes[0],
-        parts.bytes[2048],
-        parts.bytes[4096],
-        parts.bytes[6144],
-    ]
+fn landed(queue: Queue) -> Result<[u8; 4], DeviceFault> {
+    let image = Image::over(queue.into_parts().bytes);
+    Ok([
+        first_byte(&image, 0)?,
+        first_byte(&image, 1)?,
+        first_byte(&image, 2)?,
+        first_byte(&image, 3)?,
+    ])
 }
 
 // After four writes, of 1 to 4 in turn, with so many slots: how many wait, and what has landed.
@@ -60,7 +60,7 @@ fn oldest_lands_first(rt: HostRuntime) -> Result<(), Fail> {
         assert_eq!(rt; answers, [None; 4]);
         assert_eq!(rt; device.waiting(), full.waiting);
         assert_eq!(rt; first_byte(&device, 0)?, 4);
-        assert_eq!(rt; landed(&rt, device), full.landed);
+        assert_eq!(rt; landed(device)?, full.landed);
     }
     Ok(())
 }
@@ -82,7 +82,7 @@ fn a_settle_lands_all(rt: HostRuntime) -> Result<(), Fail> {
         (false, false, 0)
     );
     assert_eq!(rt; first_byte(&device, 3)?, 8);
-    assert_eq!(rt; landed(&rt, device), [0, 0, 0, 8]);
+    assert_eq!(rt; landed(device)?, [0, 0, 0, 8]);
     Ok(())
 }
 
