@@ -9,11 +9,10 @@ ghost use Rattle.octets.specs.Rows.{whole_rows};
 pub fn row_at(table: &[u8], width: usize, row: usize) -> Option<&[u8]>
     ensures { option_map (λ x. x.now) result ≡ slice_get (whole_rows width table.now) row }
 {
-    if width == 0 || row >= table.len() / width {
+    if width == 0 {
         return None;
     }
-    let from = row * width;
-    Some(&table[from..from + width])
+    table.chunks_exact(width).nth(row)
 }
 
 // How an item is written as a row of a table.
