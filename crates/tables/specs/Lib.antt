@@ -1,3 +1,4 @@
 pub mod Read
 pub mod Rows
 pub mod Back
+pub mod Laws
