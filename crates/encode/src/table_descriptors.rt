@@ -66,11 +66,8 @@ pub fn logical_volume(
     put_u32(&mut sector, 264, 6 * maps);
     put_u32(&mut sector, 268, maps);
     integrity.put(&mut sector, 432);
-    put_rows(
-        &mut sector,
-        440,
-        partitions.iter().map(|p| PartitionMap::from(*p)),
-    );
+    let rows = partitions.iter().map(|p| PartitionMap::from(*p));
+    put_rows(&mut sector, 440, rows);
     seal(&mut sector, Kind::LogicalVolume, stamp);
     Ok(sector)
 }
@@ -91,7 +88,8 @@ pub fn unallocated_space(
     let mut sector = blank();
     put_u32(&mut sector, 16, sequence);
     put_u32(&mut sector, 20, extents);
-    put_rows(&mut sector, 24, free.iter().map(|f| Extent::from(*f)));
+    let rows = free.iter().map(|pair| Extent::from(*pair));
+    put_rows(&mut sector, 24, rows);
     seal(&mut sector, Kind::UnallocatedSpace, stamp);
     Ok(sector)
 }

@@ -19,7 +19,7 @@ extent_row e = le32 e.length ++ le32 e.location
 abbrev pub map_bytes : Partition → List ℕ
 map_bytes partition = map_row (map_to partition)
 
--- a free pair as an extent: its length in bytes, and its first sector
+-- a free pair as an extent
 abbrev pub pair_bytes : FreePair → List ℕ
 pair_bytes pair = extent_row (extent_to pair)
 

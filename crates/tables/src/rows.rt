@@ -1,11 +1,10 @@
 // The rows of descriptors' tables, read and written.
 ghost use Rattle.std.specs.Prelude.{◌≡◌, ℕ, ◌<◌, ◌^◌, List, length, map, refl};
 ghost use Rattle.std.specs.List.{slice_get};
-ghost use Rattle.std.proofs.Common.{lit<};
-ghost use Rattle.octets.proofs.Runs.{u32_back};
+ghost use Rattle.std.proofs.Common.{lit<, rules};
+ghost use Rattle.octets.proofs.Runs.{u16_back, u32_back};
 ghost use Rattle.octets.specs.Fields.{put, le32};
 ghost use Rattle.octets.specs.Rows.{whole_rows};
-ghost use Rattle.tables.specs.Laws.{map_back, extent_back};
 ghost use Rattle.tables.specs.Read.{map_of, extent_of, size_of};
 ghost use Rattle.tables.specs.Rows.{map_row, extent_row};
 
@@ -86,10 +85,10 @@ impl Row for PartitionMap {
 
     ghost whole = { λ _. refl };
 
-    ghost back = { map_back };
+    ghost back = { λ map fit. Prim.search (rules, u16_back) };
 }
 
-// An extent, in the table of unallocated space.
+// An extent, as in the table of unallocated space.
 impl Row for Extent {
     const WIDTH: usize = 8;
 
@@ -114,7 +113,7 @@ impl Row for Extent {
 
     ghost whole = { λ _. refl };
 
-    ghost back = { extent_back };
+    ghost back = { λ extent fit. Prim.search (rules, u32_back) };
 }
 
 // A count of blocks, in an integrity descriptor's tables.

@@ -17,7 +17,7 @@ use Rattle.encode.proofs.RoundTripTables.{logical_volume_back}
 use Rattle.encode.proofs.table_descriptors.logical_volume.Goals as goal
 
 maps : (c : goal.After-seal) → c.put_rows.ensures.0 ≡ map map_to c.args.partitions.now
-maps c = drained _ c.put_rows.ensures.1 (YieldsList-from_map _ map_to (YieldsList-from_slice c.args.partitions.now cc) c.map.ensures.closure (λ x r q k. search rules))
+maps c = drained _ c.put_rows.ensures.1 (YieldsList-from_map _ map_to (YieldsList-from_slice c.args.partitions.now cc) c.map-rows.ensures.closure (λ x r q k. search rules))
 
 table : (c : goal.After-seal) → flat_map map_row c.put_rows.ensures.0 ≡ flat_map map_bytes c.args.partitions.now
 table c = ap (flat_map map_row) (maps c) ∙ flat_map-map map_row map_to c.args.partitions.now

@@ -1,6 +1,6 @@
 use Rattle.std.proofs.Common.{◌≡◌, ℕ, ◌+◌, ◌-◌, ◌^◌, min, List, [], length, sym, subst, ap, ◌∙◌, arith}
 use Rattle.std.proofs.ByRecursion.{All-push}
-use Rattle.std.proofs.lemmas.List.{flat_map_more, length-append, map-id}
+use Rattle.std.proofs.lemmas.List.{flat_map_more, length-append}
 use Rattle.std.specs.Iterator.{Yields}
 use Rattle.std.specs.List.{flat_map}
 use Rattle.octets.specs.Fields.{put}
@@ -38,5 +38,5 @@ returns g c =
       (c.next.new.self, (c.loop-row.row-iterator, subst (λ it. Yields g.I.Iterator.next_gives it all c.loop-row.row-iterator) c.into_iter-row-iterator.ensures.into_iter_gives c.loop-row.yielded_by, c.in-None.ensures.steps)),
       c.loop-row.invariant.0,
       c.loop-row.invariant.1,
-      table_back g.R.Row.bytes g.R.Row.WIDTH r.whole g.R.Row.of (λ row. row) g.R.Row.fits r.back r.wide all c.loop-row.invariant.2 ∙ map-id all,
+      table_back g.R.Row.bytes g.R.Row.WIDTH r.whole g.R.Row.of g.R.Row.fits r.back r.wide all c.loop-row.invariant.2,
     )

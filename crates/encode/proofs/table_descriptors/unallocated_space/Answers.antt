@@ -18,7 +18,7 @@ use Rattle.encode.proofs.RoundTripTables.{unallocated_space_back, short_decides}
 use Rattle.encode.proofs.table_descriptors.unallocated_space.Goals as goal
 
 extents : (c : goal.After-seal) → c.put_rows.ensures.0 ≡ map extent_low c.args.free.now
-extents c = drained _ c.put_rows.ensures.1 (YieldsList-from_map _ extent_low (YieldsList-from_slice c.args.free.now cc) c.map.ensures.closure (λ x r q k. search rules))
+extents c = drained _ c.put_rows.ensures.1 (YieldsList-from_map _ extent_low (YieldsList-from_slice c.args.free.now cc) c.map-rows.ensures.closure (λ x r q k. search rules))
 
 table : (c : goal.After-seal) → flat_map extent_row c.put_rows.ensures.0 ≡ flat_map pair_bytes c.args.free.now
 table c = ap (flat_map extent_row) (extents c) ∙ pairs_joined c.args.free.now
