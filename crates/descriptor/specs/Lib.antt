@@ -2,6 +2,7 @@ pub mod Limits
 pub mod Named
 pub mod Numbers
 pub mod Kinds
+pub mod Converted
 pub mod Refusals
 pub mod Checks
 pub mod Decode

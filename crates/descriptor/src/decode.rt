@@ -18,7 +18,7 @@ use crate::refusal::Refusal;
 use octets::fields::{u16_at, u32_at};
 
 // The extent at an offset.
-pub(crate) fn extent(bytes: &[u8], at: usize) -> Extent
+pub fn extent(bytes: &[u8], at: usize) -> Extent
     ensures { result ≡ extent_at bytes.now at }
 {
     Extent {

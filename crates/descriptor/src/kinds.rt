@@ -1,5 +1,6 @@
 // The kinds of descriptor, and what each holds.
 ghost use Rattle.std.specs.Prelude.{◌≡◌};
+ghost use Rattle.descriptor.specs.Converted.{map_to, extent_low};
 ghost use Rattle.descriptor.specs.Named.{Numbered};
 ghost use Rattle.descriptor.specs.Numbers.{kind_number, state_number, access_number};
 
@@ -228,4 +229,30 @@ pub enum Descriptor<'a> {
         partitions: u32,
         sizes: &'a [u8],
     },
+}
+
+// A partition's map in a logical volume: type 1, length 6, volume 1, its number.
+impl From<Partition> for PartitionMap {
+    ghost from_gives = { λ partition map. map ≡ map_to partition };
+
+    fn from(partition: Partition) -> PartitionMap {
+        PartitionMap {
+            kind: 1,
+            length: 6,
+            volume: 1,
+            number: partition.number,
+        }
+    }
+}
+
+// A free pair as an extent. Of a length in bytes that 32 bits do not hold, the lowest 32 are kept.
+impl From<FreePair> for Extent {
+    ghost from_gives = { λ pair extent. extent ≡ extent_low pair };
+
+    fn from(pair: FreePair) -> Extent {
+        Extent {
+            length: pair.count.wrapping_mul(BLOCK_BYTES),
+            location: pair.first,
+        }
+    }
 }

@@ -1,4 +1,5 @@
 pub mod Chain
+pub mod Drained
 pub mod Passes
 pub mod RoundTrip
 pub mod RoundTripTables

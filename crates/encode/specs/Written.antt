@@ -8,7 +8,7 @@ use Rattle.descriptor.specs.declared.kinds.FreePair.{FreePair}
 use Rattle.descriptor.specs.declared.kinds.Integrity.{Integrity}
 use Rattle.descriptor.specs.declared.kinds.Partition.{Partition}
 use Rattle.descriptor.specs.Numbers.{state_number}
-use Rattle.tables.specs.Rows.{map_bytes, pair_bytes, free_bytes, size_bytes}
+use Rattle.tables.specs.Rows.{extent_row, map_bytes, pair_bytes, free_bytes, size_bytes}
 use Rattle.encode.specs.declared.seal.Stamp.{Stamp}
 use Rattle.encode.specs.Sealed.{sealed}
 
@@ -35,7 +35,7 @@ primary_bytes stamp sequence volume volume_set recorded = sealed 1 stamp (primar
 -- Anchor Volume Descriptor Pointer: the extents of the main and of the reserve sequence
 abbrev pub anchor_body : (main reserve : Extent) → List ℕ
 anchor_body main reserve =
-    laid ((16, le32 main.length) ∷ (20, le32 main.location) ∷ (24, le32 reserve.length) ∷ (28, le32 reserve.location) ∷ []) (zeros sector_bytes)
+    laid ((16, extent_row main) ∷ (24, extent_row reserve) ∷ []) (zeros sector_bytes)
 
 unfoldable pub anchor_bytes : Stamp → (main reserve : Extent) → List ℕ
 anchor_bytes stamp main reserve = sealed 2 stamp (anchor_body main reserve)
@@ -65,8 +65,7 @@ logical_volume_body sequence identifier partitions integrity =
     ∷ (212, le32 sector_bytes)
     ∷ (264, le32 (6 * length partitions))
     ∷ (268, le32 (length partitions))
-    ∷ (432, le32 integrity.length)
-    ∷ (436, le32 integrity.location)
+    ∷ (432, extent_row integrity)
     ∷ (440, flat_map map_bytes partitions)
     ∷ []
     ) (zeros sector_bytes)

@@ -10,6 +10,7 @@ use descriptor::kinds::{
     Extent, Kind, Partition, Sector, SetIdentifier, Timestamp, VolumeIdentifier,
 };
 use octets::fields::{put_bytes, put_u16, put_u32};
+use tables::rows::Row;
 
 // The Primary Volume Descriptor.
 pub fn primary(
@@ -42,10 +43,8 @@ pub fn anchor(stamp: Stamp, main: Extent, reserve: Extent) -> Sector
     ensures read_back { ReadsAs result stamp Anchor (anchor_fields stamp main reserve) }
 {
     let mut sector = blank();
-    put_u32(&mut sector, 16, main.length);
-    put_u32(&mut sector, 20, main.location);
-    put_u32(&mut sector, 24, reserve.length);
-    put_u32(&mut sector, 28, reserve.location);
+    main.put(&mut sector, 16);
+    reserve.put(&mut sector, 24);
     seal(&mut sector, Kind::Anchor, stamp);
     sector
 }

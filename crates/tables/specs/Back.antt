@@ -1,22 +1,14 @@
 -- What the rows that are written are read back as.
-use Rattle.std.specs.Prelude.{◌≡◌, ◌*◌, List, map}
+use Rattle.std.specs.Prelude.{◌≡◌, List, map}
 use Rattle.std.specs.List.{flat_map}
 use Rattle.octets.specs.Rows.{whole_rows}
-use Rattle.descriptor.specs.Limits.{sector_bytes}
-use Rattle.descriptor.specs.declared.kinds.Extent.{Extent}
+use Rattle.descriptor.specs.Converted.{map_to, extent_to}
 use Rattle.descriptor.specs.declared.kinds.FreePair.{FreePair}
 use Rattle.descriptor.specs.declared.kinds.Partition.{Partition}
-use Rattle.descriptor.specs.declared.kinds.PartitionMap.{PartitionMap}
 use Rattle.tables.specs.Read.{map_of, extent_of, size_of}
 use Rattle.tables.specs.Rows.{map_bytes, pair_bytes, size_bytes}
 
 -- the rows of the tables, read back: a map of each partition, an extent of each free pair, the size of each partition
-abbrev pub map_to : Partition → PartitionMap
-map_to p = record { kind = 1; length = 6; volume = 1; number = p.number }
-
-abbrev pub extent_to : FreePair → Extent
-extent_to f = record { length = f.count * sector_bytes; location = f.first }
-
 abbrev pub MapsBack : List Partition → Type 0
 MapsBack partitions = map map_of (whole_rows 6 (flat_map map_bytes partitions)) ≡ map map_to partitions
 

@@ -1,5 +1,4 @@
 // The tables of descriptors, row by row: read and written.
 #![tactic(auto)]
 
-pub mod read;
 pub mod rows;

@@ -5,7 +5,7 @@ use encode::limits::OffLimits;
 use encode::seal::Stamp;
 use encode::table_descriptors::{integrity, logical_volume, unallocated_space};
 use std::test::Fail;
-use tables::read::read_row;
+use tables::rows::read_row;
 
 const STAMP: Stamp = Stamp {
     serial: 0xFFFF,

@@ -7,7 +7,7 @@ use descriptor::kinds::{
 use inspection::finding::Finding;
 use octets::fields::{byte_at, u16_at};
 use std::fmt;
-use tables::read::Row;
+use tables::rows::Row;
 
 // An identifier: its printable ASCII characters up to the last byte that is not zero, any other byte as a dot.
 #[derive(Clone, Copy)]

@@ -9,10 +9,7 @@ bytes : (c : goal.After-seal) → c.seal.new.sector ≡ anchor_bytes c.args.stam
 unfolding anchor_bytes
 bytes c =
     c.seal.ensures
-    ∙ ap (sealed 2 c.args.stamp) (also 28 c.put_u32-4.ensures refl
-    (also 24 c.put_u32-3.ensures refl
-    (also 20 c.put_u32-2.ensures refl
-    (also 16 c.put_u32.ensures refl c.blank-sector.ensures))))
+    ∙ ap (sealed 2 c.args.stamp) (also 24 c.put-2.ensures.after refl (also 16 c.put.ensures.after refl c.blank-sector.ensures))
 
 pub returns : goal.returns
 returns c = record {

@@ -2,7 +2,7 @@ use Rattle.std.proofs.Common.{ℕ, ◌∙◌, ap, map}
 use Rattle.std.specs.List.{slice_get}
 use Rattle.octets.specs.Rows.{whole_rows}
 use Rattle.octets.proofs.Tables.{row_read, row_missing}
-use Rattle.tables.proofs.read.read_row.Goals as goal
+use Rattle.tables.proofs.rows.read_row.Goals as goal
 
 pub returns-in_err-bytes : goal.returns-in_err-bytes
 returns-in_err-bytes g c =
