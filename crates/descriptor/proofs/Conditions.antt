@@ -1,6 +1,6 @@
 -- Each test of a check says what its condition says.
 -- Assumes nothing.
-use Rattle.std.proofs.Common.{◌≡◌, ℕ, ◌*◌, ◌≤◌, Bool, true, false, cond, eqb, leb, ◌⊎◌, List, Some, None, Decides, Option, refl, ap, ◌∙◌, subst, inl, inr, ⊎_elim, arith}
+use Rattle.std.proofs.Common.{◌≡◌, ℕ, ◌*◌, ◌≤◌, Bool, true, false, cond, eqb, leb, ◌⊎◌, List, Some, Decides, Option, refl, ap, ◌∙◌, subst, inl, inr, ⊎_elim}
 use Rattle.std.proofs.lemmas.Bool.Decides.{Decides-and, Decides-eqb, Decides-like}
 use Rattle.std.proofs.lemmas.Bool.{cond-true, le-leb, leb-true, eqb-true}
 use Rattle.std.proofs.lemmas.Option.{same_Some, none-some, cond_some}

@@ -3,7 +3,6 @@
 use Rattle.std.proofs.Common.{◌≡◌, ◌∙◌, eqb, List, ℕ, None}
 use Rattle.std.proofs.lemmas.Bool.{cond-false, ne_eqb}
 use Rattle.octets.specs.Fields.{u16_at}
-use Rattle.descriptor.specs.declared.kinds.Kind.{Kind}
 use Rattle.descriptor.specs.declared.kinds.Kind.TheVariants as kind
 use Rattle.descriptor.specs.declared.kinds.Place.{Place}
 use Rattle.descriptor.specs.declared.kinds.Place.TheVariants.{Anchor, Sequence, IntegrityExtent}

@@ -5,7 +5,7 @@ ghost use Rattle.descriptor.specs.Law.{Reading};
 ghost use Rattle.descriptor.specs.Kinds.{fields_of};
 ghost use Rattle.descriptor.specs.Named.{NamedBy};
 ghost use Rattle.descriptor.specs.Numbers.{kind_number, state_number};
-ghost use Rattle.descriptor.specs.Decode.{extent_at, primary_in, anchor_in, implementation_use_in, partition_in, logical_volume_in, unallocated_space_in, terminating_in, integrity_in, if_so, found, sequence_kind, integrity_kind, kind_in, decoded, answer};
+ghost use Rattle.descriptor.specs.Decode.{extent_at, primary_in, anchor_in, implementation_use_in, partition_in, logical_volume_in, unallocated_space_in, terminating_in, integrity_in, if_so, found, kind_in, decoded, answer};
 ghost use Rattle.descriptor.specs.Checks.{logical_volume_fits, unallocated_space_fits, integrity_fits};
 
 use crate::checks::{

@@ -1,6 +1,6 @@
 -- Torn sectors: the test says what the words say, and no torn sector passes as a descriptor.
 -- Assumes nothing.
-use Rattle.std.proofs.Common.{◌≡◌, ℕ, Bool, true, false, not, ◌||◌, eqb, List, is_ok, Ok, Err, Decides, Result, refl, ⊎_elim}
+use Rattle.std.proofs.Common.{◌≡◌, ℕ, true, false, not, ◌||◌, eqb, List, is_ok, Ok, Err, Decides, Result, refl, ⊎_elim}
 use Rattle.std.proofs.lemmas.Bool.{not-true, not_from_false, eqb-false, ne_eqb, or_cases, or_parts, or_left, or_right, or_from, false_from_ne_true}
 use Rattle.std.proofs.lemmas.Bool.Decides.{not_from_Decides}
 use Rattle.octets.specs.Fields.{u16_at}

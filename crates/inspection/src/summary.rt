@@ -1,5 +1,5 @@
 // How many sectors of each sort an inspection met.
-ghost use Rattle.std.specs.Prelude.{◌≡◌, ◌+◌, ◌-◌, ◌^◌, min};
+ghost use Rattle.std.specs.Prelude.{◌≡◌, ◌-◌, ◌^◌, min};
 ghost use Rattle.inspection.specs.Counts.{nothing_met, noted, all_met};
 ghost use Rattle.inspection.specs.Findings.{found_in};
 

@@ -1,6 +1,6 @@
 -- Laws of runs of bytes: what is put, read back, and how a run is put byte by byte.
 -- Assumes nothing.
-use Rattle.std.proofs.Common.{◌≡◌, ℕ, zero, suc, ◌+◌, ◌-◌, ◌*◌, ◌/◌, ◌%◌, ◌^◌, ◌<◌, ◌≤◌, min, List, [], ◌∷◌, ◌++◌, length, get_or, take, drop, sym, refl, ap, ap₂, ◌∙◌, ⊎_elim, le_of_suc-le-suc, not-suc-le-zero, add_assoc, suc-add, zero-add, add-one, arith}
+use Rattle.std.proofs.Common.{◌≡◌, ℕ, zero, suc, ◌+◌, ◌-◌, ◌*◌, ◌/◌, ◌%◌, ◌^◌, ◌<◌, ◌≤◌, min, List, [], ◌∷◌, ◌++◌, length, get_or, take, drop, sym, refl, ap, ap₂, ◌∙◌, ⊎_elim, le_of_suc-le-suc, not-suc-le-zero, add_assoc, suc-add, zero-add, arith}
 use Rattle.std.proofs.lemmas.List.{get_or_past, get_or-drop, take_at, take_all, drop_all, length-drop, length-replicate}
 use Rattle.std.proofs.lemmas.Nat.{shr-shr, field_of, mod-pow-add, mod_low, mod_below, pow_pos}
 use Rattle.std.proofs.lemmas.Bool.{cases_lt}

@@ -1,5 +1,5 @@
 // The slots of the caller in which writes wait.
-ghost use Rattle.std.specs.Prelude.{◌≡◌, ◌≤◌, [], take, vec_len};
+ghost use Rattle.std.specs.Prelude.{◌≡◌, ◌≤◌, [], vec_len};
 ghost use Rattle.std.specs.Option.{option_copied};
 ghost use Rattle.queue.specs.Waiting.{newest, pushed};
 

@@ -1,5 +1,5 @@
 // A small volume: its names, its partitions and its free space.
-ghost use Rattle.std.specs.Prelude.{◌≡◌, ℕ, [], ◌∷◌};
+ghost use Rattle.std.specs.Prelude.{◌≡◌, [], ◌∷◌};
 ghost use Rattle.octets.specs.Fields.{put, zeros};
 ghost use Rattle.sample.specs.Volume.{pottery, loom, free_space};
 

@@ -1,5 +1,5 @@
 // The demonstration: the descriptors of a small volume are written and inspected, and so are damaged copies of them.
-ghost use Rattle.std.specs.Prelude.{◌≡◌, ℕ, IfOk, OnOk};
+ghost use Rattle.std.specs.Prelude.{◌≡◌, IfOk, OnOk};
 ghost use Rattle.inspection.specs.Counts.{all_met};
 ghost use Rattle.image.specs.Reports.{Met};
 
