@@ -1,18 +1,20 @@
 -- The image device: its model, its reads and its writes.
 -- Assumes nothing.
-use Rattle.std.specs.Prelude.{◌≡◌, ℕ, ◌^◌, ◌<◌, List, length, Some, None, Option, nat_lt, refl}
+use Rattle.std.specs.Prelude.{◌≡◌, ℕ, ◌^◌, ◌<◌, ◌≤◌, cond, List, length, Some, None, Option, Ok, nat_lt, refl}
 use Rattle.std.specs.Borrow.{Bor}
 use Rattle.std.specs.Option.{option_copied}
 use Rattle.std.proofs.Common.{⊎_elim, sym, ap, ◌∙◌, subst, arith}
 use Rattle.std.proofs.lemmas.Bool.{lt-ltb, le-ltb, cases_lt, cond-true, cond-false}
 use Rattle.descriptor.specs.Limits.{sector_bytes}
 use Rattle.device.specs.Content.{Whole, only}
+use Rattle.device.specs.Faults.{Origins}
 use Rattle.device.specs.Model.{Sound}
-use Rattle.device.specs.Calls.{done, skip, Written, counted}
-use Rattle.media.specs.Landed.{count_of, sector_of, landed, stored, getting, putting, image_model}
+use Rattle.device.specs.declared.fault.Reason.TheVariants.{OffDevice}
+use Rattle.device.specs.Calls.{Answer, refused, filled, reading, done, skip, Written, counted}
+use Rattle.media.specs.Landed.{count_of, sector_of, landed, stored, getting, image_model}
 use Rattle.media.specs.Sectors.{sector_long, landed_there, landed_past, landed_here, landed_elsewhere, count_stored}
 
--- a sector that is got is one below the count, and so is one that is put
+-- a sector that is got is one below the count
 pub got : (bs : List ℕ) (s : ℕ) (r : Option (Bor (List ℕ))) (y : Bor (List ℕ)) → option_copied r ≡ getting bs s → r ≡ Some y → (s < count_of bs) × (y.now ≡ sector_of bs s)
 got bs s r y e some =
     ⊎_elim
@@ -20,17 +22,27 @@ got bs s r y e some =
     (λ h. let past = cond-false (nat_lt s (count_of bs)) (Some (sector_of bs s)) None (le-ltb s (count_of bs) h) in absurd (cc))
     (cases_lt s (count_of bs))
 
-pub was_put :
-    (s : ℕ) (bytes bs after : List ℕ) (r : Option (Unit {0})) (u : Unit {0}) → ◌≡◌ {A = Option (Unit {0}) × List ℕ} (r, after) (putting s bytes bs) → r ≡ Some u →
-    (s < count_of bs) × (after ≡ stored s bytes bs)
-was_put s bytes bs after r u e some =
-    let answer : r ≡ (putting s bytes bs).0 = ap (λ (p : Option (Unit {0}) × List ℕ). p.0) e in
-    let left : after ≡ (putting s bytes bs).1 = ap (λ (p : Option (Unit {0}) × List ℕ). p.1) e in
-    ⊎_elim
-    (λ h. let there = cond-true (nat_lt s (count_of bs)) (Some tt, stored s bytes bs) (None, bs) (lt-ltb s (count_of bs) h) in (h, left ∙ ap (λ (p : Option (Unit {0}) × List ℕ). p.1) there))
-    (λ h. let past = cond-false (nat_lt s (count_of bs)) (Some tt, stored s bytes bs) (None, bs) (le-ltb s (count_of bs) h) in
-    let none : r ≡ None = answer ∙ ap (λ (p : Option (Unit {0}) × List ℕ). p.0) past in absurd (cc))
-    (cases_lt s (count_of bs))
+-- an answer by a test, with what it leaves: where there is one the test passed, where there is none the test failed
+module _ {X : Type 0} (s n : ℕ) (x y : X) (r : Option (Unit {0})) (z : X) (e : ◌≡◌ {A = Option (Unit {0}) × X} (r, z) (cond (nat_lt s n) (Some tt, x) (None, y))) where
+  low : s < n → ◌≡◌ {A = Option (Unit {0}) × X} (r, z) (Some tt, x)
+  low h = e ∙ cond-true (nat_lt s n) (Some tt, x) (None, y) (lt-ltb s n h)
+
+  high : n ≤ s → ◌≡◌ {A = Option (Unit {0}) × X} (r, z) (None, y)
+  high h = e ∙ cond-false (nat_lt s n) (Some tt, x) (None, y) (le-ltb s n h)
+
+  pub passed : (u : Unit {0}) → r ≡ Some u → (s < n) × (z ≡ x)
+  passed u some =
+      ⊎_elim
+      (λ h. (h, ap (λ (p : Option (Unit {0}) × X). p.1) (low h)))
+      (λ h. let none = ap (λ (p : Option (Unit {0}) × X). p.0) (high h) in absurd (cc))
+      (cases_lt s n)
+
+  pub failed : r ≡ None → (n ≤ s) × (z ≡ y)
+  failed none =
+      ⊎_elim
+      (λ h. let some = ap (λ (p : Option (Unit {0}) × X). p.0) (low h) in absurd (cc))
+      (λ h. (h, ap (λ (p : Option (Unit {0}) × X). p.1) (high h)))
+      (cases_lt s n)
 
 -- what has landed in a sector has its bytes
 pub landed_whole : (bs : List ℕ) (s : ℕ) → Whole (landed bs s)
@@ -47,6 +59,15 @@ image_sound bs tally fits = record {
   whole = λ s. (landed_whole bs s, tt);
   past = λ s h. ap only (landed_past bs s h);
 }
+
+-- a read that finds a sector
+pub reading_there :
+    (bs : List ℕ) (s tally : ℕ) (from : Origins) (area after : List ℕ) → s < count_of bs → after ≡ sector_of bs s →
+    ◌≡◌ {A = Answer × List ℕ} (Ok tt, after) (reading (image_model bs tally) from s area)
+reading_there bs s tally from area after h e =
+    ap (λ (l : List ℕ). (Ok tt, l)) e
+    ∙ (ap (filled from s area) (sym (landed_there bs s h))
+    ∙ sym (cond-true (nat_lt s (count_of bs)) (filled from s area (landed bs s)) (refused from OffDevice s, area) (lt-ltb s (count_of bs) h)))
 
 -- a write that lands
 pub image_written :

@@ -11,7 +11,7 @@ use Rattle.std.proofs.lemmas.Bool.{lt-ltb, le-ltb, cases_lt, cond-true, cond-fal
 use Rattle.octets.proofs.Runs.{puts}
 use Rattle.descriptor.specs.Limits.{sector_bytes}
 use Rattle.device.specs.Content.{unreadable, holding}
-use Rattle.media.specs.Landed.{count_of, sector_of, landed, stored, getting}
+use Rattle.media.specs.Landed.{count_of, sector_of, landed, stored, getting, putting}
 
 -- a sector below the count lies inside the run
 pub sector_long : (bs : List ℕ) (s : ℕ) → s < count_of bs → length (sector_of bs s) ≡ sector_bytes
@@ -21,12 +21,21 @@ sector_long bs s h = simp (length-take, length-drop) (omega arith)
 sector_byte : (bs : List ℕ) (s k : ℕ) → k < sector_bytes → slice_index (sector_of bs s) k ≡ slice_index bs (sector_bytes * s + k)
 sector_byte bs s k h = get_or-take sector_bytes (drop (sector_bytes * s) bs) k 0 h ∙ get_or-drop (sector_bytes * s) bs k 0
 
+-- the answer where there is such a sector
+pub getting_there : (bs : List ℕ) (s : ℕ) (bytes : List ℕ) → s < count_of bs → bytes ≡ sector_of bs s → ◌≡◌ {A = Option (List ℕ)} (Some bytes) (getting bs s)
+getting_there bs s bytes h e =
+    ap {B = Option (List ℕ)} Some e ∙ sym (cond-true (nat_lt s (count_of bs)) (Some (sector_of bs s)) None (lt-ltb s (count_of bs) h))
+
+pub putting_there : (s : ℕ) (bytes bs after : List ℕ) → s < count_of bs → after ≡ stored s bytes bs → (◌≡◌ {A = Option (Unit {0}) × List ℕ} (Some tt, after) (putting s bytes bs))
+putting_there s bytes bs after h e =
+    ap (λ (l : List ℕ). (Some tt, l)) e ∙ sym (cond-true (nat_lt s (count_of bs)) (Some tt, stored s bytes bs) (None, bs) (lt-ltb s (count_of bs) h))
+
 -- a sector is found
 pub sector_found :
     {F : Type 0} (bs chunk : List ℕ) (s n : ℕ) (other : F → Type 0) (r : Result (Bor (List ℕ)) F) →
     IsOk r → MatchResult r (λ y. IsWholeChunk chunk y.now n) other → s < count_of bs → chunk ≡ sector_of bs s → option_copied (result_ok r) ≡ getting bs s
 sector_found bs chunk s n other (Ok y) ok whole h e =
-    ap {B = Option (List ℕ)} Some (whole.same ∙ e) ∙ sym (cond-true (nat_lt s (count_of bs)) (Some (sector_of bs s)) None (lt-ltb s (count_of bs) h))
+    getting_there bs s y.now h (whole.same ∙ e)
 sector_found bs chunk s n other (Err f) ok whole h e = cc
 
 -- a sector is put
