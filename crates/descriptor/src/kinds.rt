@@ -28,7 +28,7 @@ pub const MOST_PARTITIONS: u32 = 8;
 // The most extents of unallocated space that a volume lists here.
 pub const MOST_PAIRS: u32 = 16;
 
-// A number that names nothing here.
+// A number that names nothing here. (What a number names is written out for each enum below: no derive makes `TryFrom`.)
 #[derive(Clone, Copy, PartialEq, Eq, Debug)]
 pub struct Unknown<N>(pub N);
 

@@ -12,7 +12,7 @@ pub enum Refusal {
 }
 
 impl Refusal {
-    // The refusal's number.
+    // The refusal's number. Each type of refusal has a line for it, and no trait: no code is generic over refusals.
     pub fn number(self) -> u8
         ensures { result ≡ number_of self }
     {

@@ -36,7 +36,7 @@ impl fmt::Display for Structure {
     }
 }
 
-// The type, the version and the identifier, in turn.
+// The type, the version and the identifier, in turn: a match, since a `find` over the four was not proved, and is no shorter.
 fn named(sector: &Sector) -> Option<Structure>
     ensures { result ≡ structure_in sector.now }
 {

@@ -9,6 +9,7 @@ use octets::fields::{byte_at, u16_at};
 use std::fmt;
 use tables::rows::Row;
 
+// What is told here are bytes, or two values together, which have no type of their own that could say it.
 // An identifier: its printable ASCII characters up to the last byte that is not zero, any other byte as a dot.
 #[derive(Clone, Copy)]
 pub struct Name<'a>(pub &'a [u8]);
