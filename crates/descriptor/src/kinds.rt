@@ -81,7 +81,8 @@ pub enum Place {
     IntegrityExtent,
 }
 
-// An extent of sectors: its length in bytes, and its first sector. Length 0 says that there is none.
+// An extent of sectors: its length in bytes, and its first sector. Length 0 says that there is none; a first sector may stand
+// beside it, and what is read gives it back, so that no `Option` can say it.
 #[derive(Clone, Copy, PartialEq, Eq, Debug)]
 pub struct Extent {
     pub length: u32,

@@ -12,7 +12,8 @@ pub enum Refusal {
 }
 
 impl Refusal {
-    // The refusal's number. Each type of refusal has a line for it, and no trait: no code is generic over refusals.
+    // The refusal's number. Each type of refusal reads it in a line of its own: a trait would be as many impls of that line, for
+    // callers that know the type.
     pub fn number(self) -> u8
         ensures { result ≡ number_of self }
     {

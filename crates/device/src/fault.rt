@@ -49,7 +49,7 @@ impl DeviceFault {
         DeviceFault { reason, origin }
     }
 
-    // The refusal's number.
+    // The refusal's number, in a line of its own as for each type of refusal.
     pub fn number(self) -> u8
         ensures { result ≡ number_of self }
     {

@@ -9,6 +9,7 @@ use layer::kind::Kind;
 use layer::layer::Layer;
 use media::image::Image;
 use pairs::pair::Pair;
+use pairs::table::Pairs;
 use queue::queue::Queue;
 use std::alloc::Global;
 use std::test::Fail;
@@ -189,5 +190,24 @@ fn guarded_sectors(rt: HostRuntime) -> Result<(), Fail> {
     ];
     assert_eq!(rt; answers, expected);
     assert_eq!(rt; layer.tally(), 4);
+    Ok(())
+}
+
+#[test]
+fn a_copy_of_pairs(rt: HostRuntime) -> Result<(), Fail> {
+    let mut pairs = Pairs::none();
+    pairs.add(
+        Pair {
+            offset: 3,
+            length: 2,
+        },
+        20,
+    )?;
+    let copy = pairs.clone()?;
+    assert_eq!(rt;
+        (copy.place(0), copy.place(1), copy.place(2)),
+        (Some(3), Some(4), None)
+    );
+    assert_eq!(rt; (copy.hold(4), copy.hold(5)), (true, false));
     Ok(())
 }

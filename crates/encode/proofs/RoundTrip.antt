@@ -1,4 +1,6 @@
 -- What is written is read back: the descriptors with no table.
+-- The proofs of the writers have one shape, with a field's offset in each line: what differs is the descriptor, and a lemma for
+-- all of them would take the lists of fields that they have.
 -- Assumes nothing.
 use Rattle.std.proofs.Common.{◌≡◌, ℕ, ◌+◌, ◌*◌, ◌/◌, ◌%◌, ◌^◌, ◌<◌, List, length, Some, refl, ◌∙◌}
 use Rattle.octets.specs.Fields.{put, over, zeros, exactly}

@@ -1,7 +1,7 @@
 // The descriptors with a table that are written.
 ghost use Rattle.std.specs.Prelude.{◌≡◌, ◌+◌, ◌-◌, ◌^◌, ◌<◌, ◌≤◌, min, List, length, map, IfOk, MatchResult};
 ghost use Rattle.std.specs.Iterator.{Drains, IsFinite};
-ghost use Rattle.std.specs.List.{flat_map};
+ghost use Rattle.std.specs.List.{flat_map, AllByRecursion};
 ghost use Rattle.octets.specs.Fields.{put};
 ghost use Rattle.octets.specs.Rows.{whole_rows};
 ghost use Rattle.descriptor.specs.declared.kinds.Place.TheVariants.{Sequence, IntegrityExtent};
@@ -29,7 +29,8 @@ fn count_within<T>(items: &[T], most: u32, refusal: OffLimits) -> Result<u32, Of
     Ok(items.len() as u32)
 }
 
-// Puts rows at an offset of an area, one after the other, and answers where they end.
+// Puts rows at an offset of an area, one after the other, and answers where they end. It is private: over an iterator it has
+// to ask that the iterator ends.
 fn put_rows<R: Row + Drop, I: Iterator<Item = R> + Drop>(
     area: &mut [u8],
     at: usize,
@@ -37,7 +38,7 @@ fn put_rows<R: Row + Drop, I: Iterator<Item = R> + Drop>(
 ) -> usize
     requires can { I.can_next rows }
     requires ends { IsFinite (I.remaining rows) }
-    ensures { (all : List R) × Drains I.next_gives rows all × (area.new ≡ put at (flat_map R.bytes all) area.old) × (result ≡ min (at + length (flat_map R.bytes all)) (2 ^ 64 - 1)) × (map R.of (whole_rows R.WIDTH (flat_map R.bytes all)) ≡ all) }
+    ensures { (all : List R) × Drains I.next_gives rows all × (area.new ≡ put at (flat_map R.bytes all) area.old) × (result ≡ min (at + length (flat_map R.bytes all)) (2 ^ 64 - 1)) × (map R.of (whole_rows R.WIDTH (flat_map R.bytes all)) ≡ all) × AllByRecursion R.fits all }
 {
     let mut end = at;
     for row in rows {
@@ -109,6 +110,7 @@ pub fn integrity(
     put_bytes(&mut sector, 16, recorded);
     put_u32(&mut sector, 28, state.into());
     put_u32(&mut sector, 72, sizes);
+    // Free space is not stated, which the format says by the largest number.
     let sizes_at = put_rows(&mut sector, 80, partitions.iter().map(|_| u32::MAX));
     put_rows(&mut sector, sizes_at, partitions.iter().map(|p| p.count));
     seal(&mut sector, Kind::Integrity, stamp);

@@ -19,8 +19,8 @@ fn worth_telling(finding: Finding<'_>) -> bool
     !matches!(finding, Finding::Blank | Finding::Other)
 }
 
-// Examines a sector, counts it, and prints what it is if that is worth a line. The handle is passed and not kept, so that the
-// counts are no struct with it.
+// Examines a sector, counts it, and prints what it is if that is worth a line. The handle is a parameter of whatever
+// prints, as everywhere, so that of what travels with it the counts alone are left.
 pub fn report(
     rt: &HostRuntime,
     number: u32,

@@ -22,6 +22,14 @@ got bs s r y e some =
     (λ h. let past = cond-false (nat_lt s (count_of bs)) (Some (sector_of bs s)) None (le-ltb s (count_of bs) h) in absurd (cc))
     (cases_lt s (count_of bs))
 
+-- and one that is not got is none below the count
+pub missed : (bs : List ℕ) (s : ℕ) (r : Option (Bor (List ℕ))) → option_copied r ≡ getting bs s → r ≡ None → count_of bs ≤ s
+missed bs s r e none =
+    ⊎_elim
+    (λ h. let there = cond-true (nat_lt s (count_of bs)) (Some (sector_of bs s)) None (lt-ltb s (count_of bs) h) in absurd (cc))
+    (λ h. h)
+    (cases_lt s (count_of bs))
+
 -- an answer by a test, with what it leaves: where there is one the test passed, where there is none the test failed
 module _ {X : Type 0} (s n : ℕ) (x y : X) (r : Option (Unit {0})) (z : X) (e : ◌≡◌ {A = Option (Unit {0}) × X} (r, z) (cond (nat_lt s n) (Some tt, x) (None, y))) where
   low : s < n → ◌≡◌ {A = Option (Unit {0}) × X} (r, z) (Some tt, x)

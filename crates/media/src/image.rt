@@ -38,7 +38,8 @@ impl Image {
     }
 }
 
-// What is asked is answered in a line from the fields at hand, here and in the queue.
+// Each device answers what is asked in a line, from its own fields, here and in the queue: to share these lines, both would have
+// to be one type with a store and a tally, and a trait for the rest.
 impl Device for Image {
     ghost model = { λ d. image_model d.store d.tally };
 

@@ -5,7 +5,8 @@ ghost use Rattle.pairs.specs.Pairs.{pair_end, holds};
 // The most pairs that a layer keeps.
 pub const MOST_PAIRS: usize = 8;
 
-// A run of sectors: its offset, which is its first sector, and its length in sectors.
+// A run of sectors: its offset, which is its first sector, and its length in sectors. (The default, of no sector, fills the
+// places of an `ArrayVec` that are not used.)
 #[derive(Clone, Copy, Default, PartialEq, Eq, Debug)]
 pub struct Pair {
     pub offset: u32,

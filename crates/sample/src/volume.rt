@@ -44,13 +44,13 @@ pub fn partitions() -> [Partition; 2]
     [
         Partition {
             number: 7,
-            access: Access::Rewritable as u32,
+            access: Access::Rewritable.into(),
             first: 66,
             count: 100,
         },
         Partition {
             number: 9,
-            access: Access::ReadOnly as u32,
+            access: Access::ReadOnly.into(),
             first: 166,
             count: 50,
         },

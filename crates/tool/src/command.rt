@@ -10,7 +10,7 @@ use inspection::summary::Summary;
 use std::env;
 
 // Inspects an image file and prints the summary, or says why it does not. That something was met is a clause, here and of `run`
-// and `inspect`: a type for counts that are not 0 would be made for these three alone.
+// and `inspect`: a type for counts that are not 0 would need its own `note`, `new` and words beside those of `Summary`.
 fn inspect_and_sum(rt: &HostRuntime, path: &str) -> Result<Summary, Fault>
     ensures { IfOk result (λ s. 0 < all_met s) }
 {

@@ -1,4 +1,5 @@
-// Findings in words, as the tool prints them.
+// Findings in words, as the tool prints them. What stands here is told of bytes or of two values, which have no type of their own,
+// or takes the rows of tables, which are above the type.
 #![tactic(auto)]
 
 use descriptor::kinds::{
@@ -9,7 +10,6 @@ use octets::fields::{byte_at, u16_at};
 use std::fmt;
 use tables::rows::Row;
 
-// What is told here are bytes, or two values together, which have no type of their own that could say it.
 // An identifier: its printable ASCII characters up to the last byte that is not zero, any other byte as a dot.
 #[derive(Clone, Copy)]
 pub struct Name<'a>(pub &'a [u8]);
@@ -118,7 +118,7 @@ impl fmt::Display for Allotted {
     }
 }
 
-// The sequence number of a descriptor that has one.
+// The sequence number of a descriptor that has one: a part of its fields, as below.
 #[derive(Clone, Copy)]
 pub struct Sequenced<'a>(pub Descriptor<'a>);
 
@@ -181,7 +181,7 @@ impl fmt::Display for VolumeFields<'_> {
     }
 }
 
-// The main fields of the descriptors of a volume's parts.
+// The main fields of the descriptors of a volume's parts: the other part of that match.
 #[derive(Clone, Copy)]
 pub struct PartFields<'a>(pub Descriptor<'a>);
 
@@ -212,7 +212,7 @@ impl fmt::Display for PartFields<'_> {
     }
 }
 
-// A descriptor: its kind, its serial and its main fields.
+// A descriptor: its kind, its serial and its main fields. Its tables are told row by row, and rows are read in a crate above its own.
 #[derive(Clone, Copy)]
 pub struct Described<'a>(pub Descriptor<'a>);
 

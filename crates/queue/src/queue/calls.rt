@@ -70,6 +70,7 @@ impl Queue {
     }
 }
 
+// Its answers are a line each, as those of an image, and for the same reason.
 impl Device for Queue {
     ghost model = { model_of };
 

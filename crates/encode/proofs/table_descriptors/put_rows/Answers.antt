@@ -39,4 +39,5 @@ returns g c =
       c.loop-row.invariant.0,
       c.loop-row.invariant.1,
       table_back g.R.Row.bytes g.R.Row.WIDTH r.whole g.R.Row.of g.R.Row.fits r.back r.wide all c.loop-row.invariant.2,
+      c.loop-row.invariant.2,
     )
