@@ -28,7 +28,8 @@ pub const MOST_PARTITIONS: u32 = 8;
 // The most extents of unallocated space that a volume lists here.
 pub const MOST_PAIRS: u32 = 16;
 
-// A number that names nothing here. (What a number names is written out for each enum below: no derive makes `TryFrom`.)
+// A number that names nothing here. (What a number names, and the number of a case, is written
+// out for each enum below: no derive makes `TryFrom` or `From`.)
 #[derive(Clone, Copy, PartialEq, Eq, Debug)]
 pub struct Unknown<N>(pub N);
 

@@ -48,7 +48,7 @@ pub fn with_pairs<K: Kind, D: Device + Drop>(
     Ok(layer)
 }
 
-// The number of a refusal, if it is one.
+// The number of a refusal, if it is one; for each type of refusal there is such a line in the tests that meet it.
 pub fn number_of(answer: Result<(), DeviceFault>) -> Option<u8> {
     answer.err().map(|fault| fault.number())
 }

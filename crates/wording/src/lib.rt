@@ -30,7 +30,7 @@ impl fmt::Display for Name<'_> {
     }
 }
 
-// A recording date, without its time zone and the parts of a second.
+// A recording date, without its time zone and the parts of a second. A date of zeros is the format's way to give none.
 #[derive(Clone, Copy)]
 pub struct Date<'a>(pub &'a [u8]);
 
@@ -52,7 +52,8 @@ impl fmt::Display for Date<'_> {
     }
 }
 
-// The partition numbers of a map table, in its order.
+// The partition numbers of a map table, in its order. (This and the extents are two types: one for both would take the words of a
+// row besides, and be longer.)
 #[derive(Clone, Copy)]
 pub struct Maps<'a>(pub &'a [u8]);
 
