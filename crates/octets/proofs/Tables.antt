@@ -1,13 +1,21 @@
 -- Laws of tables, over the width of their rows.
 -- Assumes nothing.
-use Rattle.std.proofs.Common.{◌≡◌, ℕ, zero, suc, ◌+◌, ◌*◌, ◌/◌, ◌<◌, ◌≤◌, List, [], ◌∷◌, ◌++◌, map, length, get_or, take, drop, Some, None, Option, sym, refl, ap, ap₂, ◌∙◌, le_of_suc-le-suc, not-suc-le-zero, suc-mul, zero-mul, mul-div_cancel, arith}
-use native.Mathlib.Nat.{div-zero}
+use Rattle.std.proofs.Common.{◌≡◌, ℕ, zero, suc, ◌+◌, ◌*◌, ◌/◌, ◌%◌, ◌<◌, ◌≤◌, List, [], ◌∷◌, ◌++◌, map, length, get_or, take, drop, Some, None, Option, sym, refl, ap, ◌∙◌, subst, le_of_suc-le-suc, not-suc-le-zero, suc-mul, zero-mul, mul-div_cancel, arith}
 use Rattle.std.specs.List.{slice_get, flat_map, AllByRecursion}
+use Rattle.std.proofs.ByRecursion.{All-more}
 use Rattle.std.specs.Option.{option_map}
-use Rattle.std.proofs.lemmas.Nat.{le-div}
-use Rattle.std.proofs.lemmas.List.{length-append, take_at, drop_at, drop-drop, drop_more}
+use Rattle.std.proofs.lemmas.Nat.{div-add-mod', mul-le}
+use Rattle.std.proofs.lemmas.List.{length-append, take_at, drop_at, drop-drop, drop_more, take_more, flat_map_more, map-id}
 use Rattle.std.proofs.lemmas.Option.{slice_get_past}
 use Rattle.octets.specs.Rows.{rows, whole_rows}
+
+-- a row of a table that has it lies inside the table
+pub row_inside : (n width row : ℕ) → row < n / width → row * width + width ≤ n
+row_inside n width row h =
+    let a : suc row * width ≤ n / width * width = mul-le (suc row) width (n / width) width h (omega arith) in
+    let b : suc row * width ≡ row * width + width = suc-mul row width in
+    let d : n / width * width + n % width ≡ n = div-add-mod' n width in
+    omega arith
 
 pub length-rows : (width n : ℕ) (bs : List ℕ) → length (rows width n bs) ≡ n
 unfolding rows
@@ -24,19 +32,8 @@ nth-rows width (suc n) (suc row) bs h =
     nth-rows width n row (drop width bs) (le_of_suc-le-suc h)
     ∙ ap (λ (l : List ℕ). Some (take width l)) (drop-drop (row * width) width bs ∙ ap (λ (k : ℕ). drop k bs) e)
 
--- a whole part of the table that stands at a number of widths is a row
-pub row_there : (width row : ℕ) (bs x : List ℕ) → 0 < width → row * width + width ≤ length bs → x ≡ take width (drop (row * width) bs) → Some x ≡ slice_get (whole_rows width bs) row
-row_there width row bs x wide inside is =
-    let a : suc row * width ≡ row * width + width = suc-mul row width in
-    let b : suc row ≤ length bs / width = le-div (suc row) (length bs) width wide (omega arith) in
-    ap Some is ∙ sym (nth-rows width (length bs / width) row bs (omega arith))
-
--- and past the last there is none, nor is there one of no width
-pub no_row_there : (width row : ℕ) (bs : List ℕ) → length bs / width ≤ row → slice_get (whole_rows width bs) row ≡ None
-no_row_there width row bs h = let n = length-rows width (length bs / width) bs in slice_get_past (whole_rows width bs) row (omega arith)
-
-pub no_row_of_none : (row : ℕ) (bs : List ℕ) → slice_get (whole_rows 0 bs) row ≡ None
-no_row_of_none row bs = let n = div-zero (length bs) in no_row_there 0 row bs (omega arith)
+pub nth_rows_past : (width n row : ℕ) (bs : List ℕ) → n ≤ row → slice_get (rows width n bs) row ≡ None
+nth_rows_past width n row bs h = slice_get_past (rows width n bs) row (omega (arith, length-rows width n bs))
 
 -- a row read by a function, from the rows so read
 pub nth-map : {A B : Type 0} (f : A → B) (xs : List A) (i : ℕ) → slice_get (map f xs) i ≡ option_map f (slice_get xs i)
@@ -86,12 +83,25 @@ module _ {X : Type 0} (f : X → List ℕ) (width : ℕ) (each : (x : X) → len
   row_stands i xs d h = drop-joined i xs ∙ ap (flat_map f) (drop_more xs i d h)
 
   -- a table's rows, read back one by one
-  pub table_back : (dec : List ℕ → X) (P : X → Type 0) → ((x : X) → P x → dec (f x) ≡ x) → 0 < width → (xs : List X) → AllByRecursion P xs → map dec (whole_rows width (flat_map f xs)) ≡ xs
-  table_back dec P agree wide xs all = ap (map dec) (whole_rows_back wide xs) ∙ by_row xs all
+  pub table_back :
+      {Y : Type 0} (dec : List ℕ → Y) (to : X → Y) (P : X → Type 0) → ((x : X) → P x → dec (f x) ≡ to x) → 0 < width →
+      (xs : List X) → AllByRecursion P xs → map dec (whole_rows width (flat_map f xs)) ≡ map to xs
+  table_back dec to P agree wide xs all = ap (map dec) (whole_rows_back wide xs) ∙ by_row xs all
     where
-      by_row : (ys : List X) → AllByRecursion P ys → map dec (map f ys) ≡ ys
-      by_row [] h = refl
-      by_row (y ∷ ys) h = ap₂ (λ (z : X) (zs : List X). z ∷ zs) (agree y h.0) (by_row ys h.1)
+      by_row : (ys : List X) → AllByRecursion P ys → map dec (map f ys) ≡ map to ys
+      by_row = elim [ [] ↦ λ _. refl | y ∷ (ys → ih) ↦ λ h. ap (λ z. z ∷ map dec (map f ys)) (agree y h.0) ∙ ap (λ zs. to y ∷ zs) (ih h.1) ]
+
+  -- the same where each row holds what was written
+  pub table_same : (dec : List ℕ → X) (P : X → Type 0) → ((x : X) → P x → dec (f x) ≡ x) → 0 < width → (xs : List X) → AllByRecursion P xs → map dec (whole_rows width (flat_map f xs)) ≡ xs
+  table_same dec P agree wide xs all = table_back dec (λ x. x) P agree wide xs all ∙ map-id xs
+
+-- one row more
+pub joined_step : {X : Type 0} (f : X → List ℕ) (xs : List X) (i : ℕ) (x : X) → i < length xs → x ≡ get_or xs i x → flat_map f (take (i + 1) xs) ≡ flat_map f (take i xs) ++ f x
+joined_step f xs i x h e =
+    ap (flat_map f) (take_more xs i x h ∙ ap (λ y. take i xs ++ y ∷ []) (sym e)) ∙ sym (flat_map_more f [] (take i xs) x)
+
+pub all_step : {X : Type 0} (P : X → Type 0) (xs : List X) (i : ℕ) (x : X) → i < length xs → x ≡ get_or xs i x → AllByRecursion P (take i xs) → P x → AllByRecursion P (take (i + 1) xs)
+all_step P xs i x h e before here = All-more P xs i x h before (subst P e here)
 
 -- the answer of a function that reads a row: what the row holds, or nothing where there is no such row
 pub row_read : {A : Type 0} (f : List ℕ → A) (rs : List (List ℕ)) (i : ℕ) (row : List ℕ) (x : A) → Some row ≡ slice_get rs i → x ≡ f row → Some x ≡ slice_get (map f rs) i

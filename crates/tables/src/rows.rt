@@ -6,12 +6,12 @@ ghost use Rattle.octets.proofs.Runs.{u16_back, u32_back};
 ghost use Rattle.octets.specs.Fields.{put, le32};
 ghost use Rattle.octets.specs.Rows.{whole_rows};
 ghost use Rattle.tables.specs.Read.{map_of, extent_of, size_of};
-ghost use Rattle.tables.specs.Rows.{map_row, extent_row};
+ghost use Rattle.tables.specs.Rows.{map_row, extent_row, map_bytes, pair_bytes, free_bytes, size_bytes};
 
 use descriptor::decode::extent;
-use descriptor::kinds::{Extent, PartitionMap};
+use descriptor::kinds::{Extent, FreePair, Partition, PartitionMap};
 use octets::fields::{byte_at, put_bytes, put_u32, u16_at, u32_at};
-use octets::rows::row_at;
+use octets::rows::{RowFormat, row_at};
 
 // A row of a table, read and written.
 pub trait Row: Sized {
@@ -141,4 +141,68 @@ impl Row for u32 {
     ghost whole = { λ _. refl };
 
     ghost back = { u32_back };
+}
+
+// A partition as its map: type 1, length 6, volume 1, its number.
+pub struct MapFormat;
+
+impl RowFormat for MapFormat {
+    type Item = Partition;
+
+    ghost row = { map_bytes };
+
+    ghost fits = { λ p. p.number < 2 ^ 16 };
+
+    fn put_row(area: &mut [u8], at: usize, item: &Partition) -> usize {
+        PartitionMap::from(*item).put(area, at);
+        at.saturating_add(PartitionMap::WIDTH)
+    }
+}
+
+// A free pair as an extent.
+pub struct PairFormat;
+
+impl RowFormat for PairFormat {
+    type Item = FreePair;
+
+    ghost row = { pair_bytes };
+
+    ghost fits = { λ f. f.first < 2 ^ 32 };
+
+    fn put_row(area: &mut [u8], at: usize, item: &FreePair) -> usize {
+        Extent::from(*item).put(area, at);
+        at.saturating_add(Extent::WIDTH)
+    }
+}
+
+// A partition's free space, which is not stated.
+pub struct FreeFormat;
+
+impl RowFormat for FreeFormat {
+    type Item = Partition;
+
+    ghost row = { free_bytes };
+
+    ghost fits = { λ _. Unit {0} };
+
+    fn put_row(area: &mut [u8], at: usize, _item: &Partition) -> usize {
+        u32::MAX.put(area, at);
+        at.saturating_add(u32::WIDTH)
+    }
+}
+
+// A partition's size in blocks.
+pub struct SizeFormat;
+
+impl RowFormat for SizeFormat {
+    type Item = Partition;
+
+    ghost row = { size_bytes };
+
+    ghost fits = { λ p. p.count < 2 ^ 32 };
+
+    fn put_row(area: &mut [u8], at: usize, item: &Partition) -> usize {
+        item.count.put(area, at);
+        at.saturating_add(u32::WIDTH)
+    }
 }

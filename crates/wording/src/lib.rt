@@ -1,14 +1,12 @@
-// Findings in words, as the tool prints them. What stands here is told of bytes or of two values, which have no type of their own,
-// or takes the rows of tables, which are above the type.
+// Findings in words, as the tool prints them. What stands here is told of bytes, of a number or of two values, which have no type
+// of their own, or takes the rows of tables, which are above the type.
 #![tactic(auto)]
 
-use descriptor::kinds::{
-    Access, BLOCK_BYTES, Descriptor, Extent, Partition, PartitionMap, Unknown,
-};
+use descriptor::kinds::{self, BLOCK_BYTES, Descriptor, Extent, Partition, PartitionMap, Unknown};
 use inspection::finding::Finding;
 use octets::fields::{byte_at, u16_at};
 use std::fmt;
-use tables::rows::Row;
+use tables::rows::{Row, read_row};
 
 // An identifier: its printable ASCII characters up to the last byte that is not zero, any other byte as a dot.
 #[derive(Clone, Copy)]
@@ -53,21 +51,21 @@ impl fmt::Display for Date<'_> {
 }
 
 // The partition numbers of a map table, in its order. (This and the extents are two types: one for both would take the words of a
-// row besides, and be longer.)
+// row besides, and be longer.) A row comes from `read_row`, whose contract says that it is the table's whole row there.
 #[derive(Clone, Copy)]
 pub struct Maps<'a>(pub &'a [u8]);
 
 impl fmt::Display for Maps<'_> {
     fn fmt<W: fmt::Write>(&self, f: &mut fmt::Formatter<W>) -> fmt::Result {
-        let rows = self.0.chunks_exact(PartitionMap::WIDTH);
-        write!(f, "maps: {}", rows.len())?;
-        for row in rows {
+        let rows = self.0.len() / PartitionMap::WIDTH;
+        write!(f, "maps: {rows}")?;
+        for map in (0..rows).filter_map(|row| read_row::<PartitionMap>(self.0, row)) {
             let PartitionMap {
                 kind,
                 volume,
                 number,
                 ..
-            } = PartitionMap::read(row);
+            } = map;
             write!(f, ", partition {number} (type {kind}, volume {volume})")?;
         }
         Ok(())
@@ -80,13 +78,26 @@ pub struct Free<'a>(pub &'a [u8]);
 
 impl fmt::Display for Free<'_> {
     fn fmt<W: fmt::Write>(&self, f: &mut fmt::Formatter<W>) -> fmt::Result {
-        let rows = self.0.chunks_exact(Extent::WIDTH);
-        write!(f, "free extents: {}", rows.len())?;
-        for row in rows {
-            let Extent { length, location } = Extent::read(row);
+        let rows = self.0.len() / Extent::WIDTH;
+        write!(f, "free extents: {rows}")?;
+        for extent in (0..rows).filter_map(|row| read_row::<Extent>(self.0, row)) {
+            let Extent { length, location } = extent;
             write!(f, ", {} sectors from {location}", length / BLOCK_BYTES)?;
         }
         Ok(())
+    }
+}
+
+// How a partition may be written, by its access type: any number, since any may stand on a card.
+#[derive(Clone, Copy)]
+pub struct Access(pub u32);
+
+impl fmt::Display for Access {
+    fn fmt<W: fmt::Write>(&self, f: &mut fmt::Formatter<W>) -> fmt::Result {
+        match kinds::Access::try_from(self.0) {
+            Ok(known) => write!(f, "{known}"),
+            Err(Unknown(number)) => write!(f, "access type {number}"),
+        }
     }
 }
 
@@ -105,12 +116,11 @@ impl fmt::Display for Allotted {
             first,
             count,
         } = self.partition;
-        write!(f, "partition {number}, ")?;
-        match Access::try_from(access) {
-            Ok(known) => write!(f, "{known}")?,
-            Err(Unknown(number)) => write!(f, "access type {number}")?,
-        }
-        write!(f, ", {count} sectors from {first}")?;
+        let access = Access(access);
+        write!(
+            f,
+            "partition {number}, {access}, {count} sectors from {first}"
+        )?;
         if self.flags % 2 == 0 {
             write!(f, ", not allocated")
         } else {

@@ -5,7 +5,7 @@ use Rattle.std.specs.Iterator.{Yields}
 use Rattle.std.specs.List.{flat_map}
 use Rattle.octets.specs.Fields.{put}
 use Rattle.octets.proofs.Runs.{put_none, saturated_put}
-use Rattle.octets.proofs.Tables.{table_back}
+use Rattle.octets.proofs.Tables.{table_same}
 use Rattle.encode.proofs.table_descriptors.put_rows.Goals as goal
 
 -- where the next row goes, from where this one went
@@ -38,6 +38,6 @@ returns g c =
       (c.next.new.self, (c.loop-row.row-iterator, subst (λ it. Yields g.I.Iterator.next_gives it all c.loop-row.row-iterator) c.into_iter-row-iterator.ensures.into_iter_gives c.loop-row.yielded_by, c.in-None.ensures.steps)),
       c.loop-row.invariant.0,
       c.loop-row.invariant.1,
-      table_back g.R.Row.bytes g.R.Row.WIDTH r.whole g.R.Row.of g.R.Row.fits r.back r.wide all c.loop-row.invariant.2,
+      table_same g.R.Row.bytes g.R.Row.WIDTH r.whole g.R.Row.of g.R.Row.fits r.back r.wide all c.loop-row.invariant.2,
       c.loop-row.invariant.2,
     )
