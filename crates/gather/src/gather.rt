@@ -7,6 +7,7 @@ ghost use Rattle.gather.specs.Gathered.{gathered, gather_origins, gather_source,
 ghost use Rattle.gather.specs.Gathering.{gathered_keeps, cuts_rise};
 
 use device::fault::{self, DeviceFault, Reason};
+use device::interface::Device;
 use layer::kind::Kind;
 use layer::layer::Layer;
 use pairs::table::Pairs;
@@ -53,5 +54,10 @@ impl Kind for Gathering {
 
     fn target(pairs: &Pairs, _below: u32, sector: u32) -> Result<u32, DeviceFault> {
         Self::source(pairs, sector)
+    }
+
+    // No count is asked for: nothing hangs on it.
+    fn target_over<D: Device>(pairs: &Pairs, _below: &D, sector: u32) -> Result<u32, DeviceFault> {
+        Self::target(pairs, 0, sector)
     }
 }

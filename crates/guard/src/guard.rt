@@ -4,6 +4,7 @@ ghost use Rattle.guard.specs.Guarding.{guarded_keeps, guarded_whole, cuts_rise};
 ghost use Rattle.std.specs.Prelude.{Ok};
 
 use device::fault::{self, DeviceFault, Reason};
+use device::interface::Device;
 use layer::kind::Kind;
 use layer::layer::Layer;
 use pairs::table::Pairs;
@@ -49,5 +50,10 @@ impl Kind for Guarding {
             return Err(DeviceFault::arising(Reason::TakesNoWrites, fault::Layer::Guard, sector));
         }
         Ok(sector)
+    }
+
+    // No count is asked for: where there is no such sector, none takes writes below.
+    fn takes_over<D: Device>(pairs: &Pairs, below: &D, sector: u32) -> bool {
+        below.takes_writes(sector) && !pairs.hold(sector)
     }
 }

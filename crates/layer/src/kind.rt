@@ -7,9 +7,10 @@ ghost use Rattle.pairs.specs.declared.fault.PairFault.{PairFault};
 ghost use Rattle.pairs.specs.Pairs.{in_order};
 ghost use Rattle.pairs.specs.View.{pairs_of};
 ghost use Rattle.pairs.specs.Law.{Adding};
-ghost use Rattle.layer.specs.Kept.{Passed, Keeps};
+ghost use Rattle.layer.specs.Kept.{Passed, takes_there, Keeps};
 
 use device::fault::DeviceFault;
+use device::interface::Device;
 use pairs::table::Pairs;
 
 // What a layer with some pairs makes of the device below.
@@ -46,6 +47,23 @@ pub trait Kind {
     // The sector below that is written for a sector, over a device of so many, or the layer's own refusal.
     fn target(pairs: &Pairs, below: u32, sector: u32) -> Result<u32, DeviceFault>
         ensures { result ≡ target (pairs_of pairs.now) below sector };
+
+    // The same over a device. A layer's write asks this, so that a kind for which nothing hangs on the count below need not ask
+    // for it.
+    fn target_over<D: Device>(pairs: &Pairs, below: &D, sector: u32) -> Result<u32, DeviceFault>
+        ensures { result ≡ target (pairs_of pairs.now) (D.model below.now).count sector }
+    {
+        Self::target(pairs, below.count(), sector)
+    }
+
+    // Whether a sector takes writes over a device. Where a kind can tell without the count below, a question goes down a pile
+    // of layers once, and not once more at each of them.
+    fn takes_over<D: Device>(pairs: &Pairs, below: &D, sector: u32) -> bool
+        ensures { result ≡ takes_there (target (pairs_of pairs.now) (D.model below.now).count sector) (D.model below.now) }
+    {
+        let target = Self::target_over(pairs, below, sector);
+        target.is_ok_and(|at| below.takes_writes(at))
+    }
 
     // the layer keeps the meaning of a device
     ghost keeps: { (ps : List Pair) → in_order 0 ps ≡ true → Keeps (over ps) (origins ps) (count ps) (source ps) (target ps) };

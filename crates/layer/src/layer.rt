@@ -82,8 +82,7 @@ impl<K: Kind, D: Device> Device for Layer<K, D> {
     }
 
     fn takes_writes(&self, sector: u32) -> bool {
-        let target = K::target(&self.pairs, self.below.count(), sector);
-        target.is_ok_and(|at| self.below.takes_writes(at))
+        K::takes_over(&self.pairs, &self.below, sector)
     }
 
     fn read(&self, sector: u32, area: &mut Sector) -> Result<(), DeviceFault> {
@@ -92,7 +91,7 @@ impl<K: Kind, D: Device> Device for Layer<K, D> {
     }
 
     fn write(&mut self, sector: u32, bytes: &Sector) -> Result<(), DeviceFault> {
-        let at = K::target(&self.pairs, self.below.count(), sector)?;
+        let at = K::target_over(&self.pairs, &self.below, sector)?;
         hand_up(self.below.write(at, bytes))
     }
 
