@@ -1,9 +1,6 @@
 -- Pairs in their order.
 -- Assumes nothing.
-use Rattle.std.proofs.Common.{◌≡◌, ℕ, ◌+◌, ◌-◌, ◌^◌, ◌<◌, ◌≤◌, min, true, ltb, leb, List, [], ◌∷◌, ◌++◌, length, refl, ⊎_elim, arith}
-use native.Mathlib.Numerals.{unary_clauses}
-use Rattle.std.specs.List.{slice_get}
-use Rattle.std.specs.Option.{option_map_or}
+use Rattle.std.proofs.Common.{◌≡◌, ℕ, ◌+◌, ◌-◌, ◌^◌, ◌<◌, ◌≤◌, min, true, ltb, leb, List, [], ◌∷◌, ◌++◌, refl, ⊎_elim, arith}
 use Rattle.std.proofs.lemmas.List.Sums.{sum_by-cons}
 use Rattle.std.proofs.lemmas.Bool.{leb-true, ltb-true, le-leb, lt-ltb, and_parts, and_from, cases_lt}
 use Rattle.pairs.specs.declared.pair.Pair.{Pair}
@@ -38,12 +35,6 @@ in_order_push from (q ∷ qs) p h e l f =
 pub end_after_push : (from : ℕ) (ps : List Pair) (p : Pair) → end_after from (ps ++ p ∷ []) ≡ pair_end p
 end_after_push from [] p = refl
 end_after_push from (q ∷ qs) p = end_after_push (pair_end q) qs p
-
--- where the last pair ends
-pub end_last : (from : ℕ) (ps : List Pair) → end_after from ps ≡ option_map_or pair_end (slice_get ps (length ps - 1)) from
-end_last from [] = refl
-end_last from (p ∷ []) = refl
-end_last from (p ∷ q ∷ qs) = simp unary_clauses (simp unary_clauses at (end_last from (q ∷ qs)))
 
 -- how many sectors of no pair, and of a first pair and the rest
 pub reached_nil : (n : ℕ) → reached [] n ≡ 0

@@ -1,15 +1,14 @@
 // The calls of a table of pairs.
 ghost use Rattle.std.specs.Prelude.{◌≡◌, [], Decides};
 ghost use Rattle.device.specs.Cuts.{Among};
-ghost use Rattle.pairs.specs.Pairs.{end_after, added, place, within, reached};
+ghost use Rattle.pairs.specs.Pairs.{added, place, within, reached};
 ghost use Rattle.pairs.specs.View.{pairs_of};
 ghost use Rattle.pairs.specs.Law.{Adding, sectors, Numbered};
 
 use crate::fault::PairFault;
-use crate::pair::Pair;
+use crate::pair::{MOST_PAIRS, Pair};
 use crate::search::{one_holds, place_of};
 use crate::table::Pairs;
-use arrayvec::ArrayVec;
 
 impl Pairs {
     // No pair yet.
@@ -17,31 +16,35 @@ impl Pairs {
         ensures { pairs_of result ≡ [] }
     {
         Pairs {
-            items: ArrayVec::new(),
+            items: [Pair::default(); MOST_PAIRS],
+            len: 0,
+            end: 0,
         }
     }
 
-    // Where the last pair ends, or 0 where there is none.
-    fn end(&self) -> u64
-        ensures { result ≡ end_after 0 (pairs_of self.now) }
+    // The pairs, in their order.
+    fn all(&self) -> &[Pair]
+        ensures { result.now ≡ pairs_of self.now }
     {
-        self.items.last().map_or(0, |pair| pair.end())
+        &self.items[..self.len]
     }
 
     // The conditions of a pair in their order.
     fn accept(&mut self, pair: Pair, count: u32) -> Result<(), PairFault>
         ensures { (result, pairs_of self.new) ≡ added (pairs_of self.old) pair count }
     {
-        if self.items.is_full() || pair.length == 0 {
+        if self.len >= MOST_PAIRS || pair.length == 0 {
             return Err(PairFault::OffLimits);
         }
-        if u64::from(pair.offset) < self.end() {
+        if pair.offset < self.end {
             return Err(PairFault::OutOfOrder);
         }
         if pair.end() > u64::from(count) {
             return Err(PairFault::PastTheEnd);
         }
-        self.items.push(pair);
+        self.items[self.len] = pair;
+        self.len += 1;
+        self.end = pair.offset + pair.length;
         Ok(())
     }
 
@@ -58,7 +61,7 @@ impl Pairs {
         ensures value { result ≡ place (pairs_of self.now) sector }
         ensures law { Numbered (pairs_of self.now) sector result }
     {
-        place_of(&self.items, sector)
+        place_of(self.all(), sector)
     }
 
     // Whether a sector below lies inside a pair.
@@ -66,7 +69,7 @@ impl Pairs {
         ensures value { result ≡ within (pairs_of self.now) sector }
         ensures law { Decides result (Among sector (sectors (pairs_of self.now))) }
     {
-        one_holds(&self.items, sector)
+        one_holds(self.all(), sector)
     }
 
     // How many of the pairs' sectors a device of so many sectors has.
@@ -74,6 +77,6 @@ impl Pairs {
     pub fn reached(&self, count: u32) -> u32
         ensures { result ≡ reached (pairs_of self.now) count }
     {
-        self.items.iter().map(|pair| pair.reached(count)).sum()
+        self.all().iter().map(|pair| pair.reached(count)).sum()
     }
 }

@@ -6,7 +6,7 @@ ghost use Rattle.pairs.specs.Pairs.{pair_end, holds};
 pub const MOST_PAIRS: usize = 8;
 
 // A run of sectors: its offset, which is its first sector, and its length in sectors. (The default, of no sector, fills the
-// places of an `ArrayVec` that are not used.)
+// places of a table that are not used.)
 #[derive(Clone, Copy, Default, PartialEq, Eq, Debug)]
 pub struct Pair {
     pub offset: u32,
@@ -32,7 +32,6 @@ impl Pair {
     pub(crate) fn reached(self, count: u32) -> u32
         ensures { result ≡ min (pair_end self) count - self.offset }
     {
-        let end = self.offset.saturating_add(self.length).min(count);
-        end.saturating_sub(self.offset)
+        self.length.min(count.saturating_sub(self.offset))
     }
 }
