@@ -1,7 +1,9 @@
 // A sector read as a descriptor.
 ghost use Rattle.std.specs.Prelude.{◌≡◌};
+ghost use Rattle.std.specs.Option.{ok_or};
 ghost use Rattle.octets.specs.Fields.{u16_at, u32_at};
 ghost use Rattle.descriptor.specs.Law.{Reading};
+ghost use Rattle.descriptor.specs.declared.refusal.Refusal.TheVariants.{Kind as KindRefused};
 ghost use Rattle.descriptor.specs.Kinds.{fields_of};
 ghost use Rattle.descriptor.specs.Named.{NamedBy};
 ghost use Rattle.descriptor.specs.Numbers.{kind_number, state_number};
@@ -147,20 +149,24 @@ fn kind_of(sector: &Sector) -> Option<Kind>
     Kind::try_from(u16_at(sector, 0)).ok()
 }
 
-// Check 4: the descriptor that the sector's kind is in its place.
-fn in_place(sector: &Sector, place: Place) -> Option<Descriptor<'_>>
-    ensures { found result ≡ kind_in place sector.now }
+// Check 4: the descriptor that the sector's kind is in its place, as `decode` answers it, so that what is always one is made
+// where it is handed on.
+fn in_place(sector: &Sector, place: Place) -> Result<Descriptor<'_>, Refusal>
+    ensures { answer result ≡ ok_or (kind_in place sector.now) KindRefused }
 {
-    match (place, kind_of(sector)?) {
-        (Place::Anchor, Kind::Anchor) => Some(anchor(sector)),
-        (Place::Sequence, Kind::Primary) => Some(primary(sector)),
-        (Place::Sequence, Kind::ImplementationUse) => Some(implementation_use(sector)),
-        (Place::Sequence, Kind::Partition) => Some(partition(sector)),
-        (Place::Sequence, Kind::LogicalVolume) => logical_volume(sector),
-        (Place::Sequence, Kind::UnallocatedSpace) => unallocated_space(sector),
-        (Place::Sequence | Place::IntegrityExtent, Kind::Terminating) => Some(terminating(sector)),
-        (Place::IntegrityExtent, Kind::Integrity) => integrity(sector),
-        _ => None,
+    let Some(kind) = kind_of(sector) else {
+        return Err(Refusal::Kind);
+    };
+    match (place, kind) {
+        (Place::Anchor, Kind::Anchor) => Ok(anchor(sector)),
+        (Place::Sequence, Kind::Primary) => Ok(primary(sector)),
+        (Place::Sequence, Kind::ImplementationUse) => Ok(implementation_use(sector)),
+        (Place::Sequence, Kind::Partition) => Ok(partition(sector)),
+        (Place::Sequence, Kind::LogicalVolume) => logical_volume(sector).ok_or(Refusal::Kind),
+        (Place::Sequence, Kind::UnallocatedSpace) => unallocated_space(sector).ok_or(Refusal::Kind),
+        (Place::Sequence | Place::IntegrityExtent, Kind::Terminating) => Ok(terminating(sector)),
+        (Place::IntegrityExtent, Kind::Integrity) => integrity(sector).ok_or(Refusal::Kind),
+        _ => Err(Refusal::Kind),
     }
 }
 
@@ -177,7 +183,7 @@ fn checked(sector: &Sector, number: u32, place: Place) -> Result<Descriptor<'_>,
     if !crc_holds(sector) {
         return Err(Refusal::Crc);
     }
-    in_place(sector, place).ok_or(Refusal::Kind)
+    in_place(sector, place)
 }
 
 // The sector with this number, read in its place: what it holds, or the check that it fails first. Sector and number are two
